@@ -1,0 +1,12 @@
+pub mod RunLaws
+pub mod FactLaws
+pub mod Rising
+pub mod NameLists
+pub mod Nulls
+pub mod HiddenRoles
+pub mod Images
+pub mod Simulation
+pub mod EncodingLaws
+pub mod DeclaringLaws
+pub mod EncodingShape
+pub mod RowLists
