@@ -1,0 +1,8 @@
+pub mod Causes
+pub mod Known
+pub mod Lines
+pub mod Reading
+pub mod Window
+pub mod MemoryObjects
+pub mod Held
+pub mod Writing
