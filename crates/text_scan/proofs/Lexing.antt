@@ -1,0 +1,93 @@
+-- Reading one piece after the other, as a loop does.
+use Rattle.std.proofs.Common.{◌≡◌, ℕ, zero, suc, ◌+◌, ◌-◌, ◌≤◌, ◌<◌, List, [], ◌∷◌, ◌++◌, length, take, drop, Option, Some, None, refl, sym, ap, ◌∙◌, append_assoc, arith, add-zero, drop-drop, length-drop}
+use Rattle.std.proofs.lemmas.List.{append-nil}
+use Rattle.text_scan.specs.declared.Piece.{Piece}
+use Rattle.text_scan.specs.declared.Piece.TheVariants.{Gap, Word, Fault}
+use Rattle.text_scan.specs.declared.TokenKind.{TokenKind}
+use Rattle.text_scan.specs.Lexing.{Lexeme, Lexed, lexed, piece, front_piece, with_first, from_piece}
+
+-- what was read before, and what is still read
+abbrev pub with_front : List Lexeme → Lexed → Lexed
+with_front front others = record { tokens = front ++ others.tokens; fault = others.fault }
+
+-- the rest of a piece is passed over
+passes : (inside place : ℕ) (bytes : List ℕ) → lexed inside place bytes ≡ lexed 0 (place + inside) (drop inside bytes)
+unfolding lexed
+passes zero place bytes = rw add-zero refl
+passes (suc inside) place [] = refl
+passes (suc inside) place (b ∷ rest) =
+    let e : suc place + inside ≡ place + suc inside = omega arith in
+    passes inside (suc place) rest ∙ ap (λ (p : ℕ). lexed 0 p (drop inside rest)) e
+
+-- the bytes after the first of a piece
+after_first_byte : (len place b : ℕ) (rest : List ℕ) → 1 ≤ len → lexed (len - 1) (suc place) rest ≡ lexed 0 (place + len) (drop len (b ∷ rest))
+after_first_byte zero place b rest h = absurd (omega arith)
+after_first_byte (suc n) place b rest h =
+    let e : suc n - 1 ≡ n = omega arith in
+    let f : suc place + n ≡ place + suc n = omega arith in
+    rw e (passes n (suc place) rest ∙ ap (λ (p : ℕ). lexed 0 p (drop n rest)) f)
+
+pub after_gap : (len place : ℕ) (bytes : List ℕ) → front_piece bytes ≡ Gap len → 1 ≤ len → lexed 0 place bytes ≡ lexed 0 (place + len) (drop len bytes)
+unfolding lexed
+after_gap len place [] h one = absurd cc
+after_gap len place (b ∷ rest) h one =
+    ap (λ (p : Piece). from_piece p place (b ∷ rest) (λ inside. lexed inside (suc place) rest)) h ∙ after_first_byte len place b rest one
+
+pub after_word : (kind : TokenKind) (len place : ℕ) (bytes : List ℕ) → front_piece bytes ≡ Word kind len → 1 ≤ len
+    → lexed 0 place bytes ≡ with_first (record { kind = kind; text = take len bytes; start = place }) (lexed 0 (place + len) (drop len bytes))
+unfolding lexed
+after_word kind len place [] h one = absurd cc
+after_word kind len place (b ∷ rest) h one =
+    ap (λ (p : Piece). from_piece p place (b ∷ rest) (λ inside. lexed inside (suc place) rest)) h
+    ∙ ap (λ (others : Lexed). with_first (record { kind = kind; text = take len (b ∷ rest); start = place }) others) (after_first_byte len place b rest one)
+
+pub at_fault : (place : ℕ) (bytes : List ℕ) → front_piece bytes ≡ Fault → 0 < length bytes → lexed 0 place bytes ≡ record { tokens = []; fault = Some place }
+unfolding lexed
+at_fault place [] h some = absurd (omega arith)
+at_fault place (b ∷ rest) h some = ap (λ (p : Piece). from_piece p place (b ∷ rest) (λ inside. lexed inside (suc place) rest)) h
+
+pub at_end : (place : ℕ) (bytes : List ℕ) → length bytes ≤ 0 → lexed 0 place bytes ≡ record { tokens = []; fault = None }
+unfolding lexed
+at_end place [] none = refl
+at_end place (b ∷ rest) none = absurd (omega arith)
+
+pub with_front-with_first : (front : List Lexeme) (first : Lexeme) (read : Lexed) → with_front front (with_first first read) ≡ with_front (front ++ first ∷ []) read
+with_front-with_first front first others = ap (λ (ls : List Lexeme). let l : Lexed = record { tokens = ls; fault = others.fault } in l) (simp append_assoc)
+
+-- ---- the loop
+
+pub gap_goes_on : (front : List Lexeme) (len place : ℕ) (text : List ℕ) (total : Lexed)
+    → front_piece (drop place text) ≡ Gap len → 1 ≤ len
+    → with_front front (lexed 0 place (drop place text)) ≡ total
+    → with_front front (lexed 0 (place + len) (drop (place + len) text)) ≡ total
+gap_goes_on front len place text total h one so_far =
+    let e : lexed 0 place (drop place text) ≡ lexed 0 (place + len) (drop (place + len) text) =
+    after_gap len place (drop place text) h one ∙ ap (λ (bytes : List ℕ). lexed 0 (place + len) bytes) (drop-drop len place text) in
+    ap (λ (read : Lexed). with_front front read) (sym e) ∙ so_far
+
+pub word_goes_on : (front : List Lexeme) (kind : TokenKind) (len place : ℕ) (text : List ℕ) (total : Lexed)
+    → front_piece (drop place text) ≡ Word kind len → 1 ≤ len
+    → with_front front (lexed 0 place (drop place text)) ≡ total
+    → with_front (front ++ record { kind = kind; text = take len (drop place text); start = place } ∷ []) (lexed 0 (place + len) (drop (place + len) text)) ≡ total
+word_goes_on front kind len place text total h one so_far =
+    let first : Lexeme = record { kind = kind; text = take len (drop place text); start = place } in
+    let e : lexed 0 place (drop place text) ≡ with_first first (lexed 0 (place + len) (drop (place + len) text)) =
+    after_word kind len place (drop place text) h one ∙ ap (λ (bytes : List ℕ). with_first first (lexed 0 (place + len) bytes)) (drop-drop len place text) in
+    sym (with_front-with_first front first (lexed 0 (place + len) (drop (place + len) text)))
+    ∙ ap (λ (read : Lexed). with_front front read) (sym e) ∙ so_far
+
+pub fault_ends : (front : List Lexeme) (place : ℕ) (text : List ℕ) (total : Lexed)
+    → front_piece (drop place text) ≡ Fault → place < length text
+    → with_front front (lexed 0 place (drop place text)) ≡ total → total ≡ record { tokens = front; fault = Some place }
+fault_ends front place text total h lt so_far =
+    let some : 0 < length (drop place text) = omega (arith, length-drop place text) in
+    sym so_far ∙ ap (λ (read : Lexed). with_front front read) (at_fault place (drop place text) h some)
+    ∙ ap (λ (ls : List Lexeme). let l : Lexed = record { tokens = ls; fault = Some place } in l) (append-nil front)
+
+pub end_ends : (front : List Lexeme) (place : ℕ) (text : List ℕ) (total : Lexed)
+    → length text ≤ place
+    → with_front front (lexed 0 place (drop place text)) ≡ total → total ≡ record { tokens = front; fault = None }
+end_ends front place text total le so_far =
+    let none : length (drop place text) ≤ 0 = omega (arith, length-drop place text) in
+    sym so_far ∙ ap (λ (read : Lexed). with_front front read) (at_end place (drop place text) none)
+    ∙ ap (λ (ls : List Lexeme). let l : Lexed = record { tokens = ls; fault = None } in l) (append-nil front)
