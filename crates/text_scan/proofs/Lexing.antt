@@ -1,10 +1,10 @@
 -- Reading one piece after the other, as a loop does.
 use Rattle.std.proofs.Common.{◌≡◌, ℕ, zero, suc, ◌+◌, ◌-◌, ◌≤◌, ◌<◌, List, [], ◌∷◌, ◌++◌, length, take, drop, Option, Some, None, refl, sym, ap, ◌∙◌, append_assoc, arith, add-zero, drop-drop, length-drop}
-use Rattle.std.proofs.lemmas.List.{append-nil}
+use Rattle.std.proofs.lemmas.List.{append-nil, length-take-le}
 use Rattle.text_scan.specs.declared.Piece.{Piece}
 use Rattle.text_scan.specs.declared.Piece.TheVariants.{Gap, Word, Fault}
 use Rattle.text_scan.specs.declared.TokenKind.{TokenKind}
-use Rattle.text_scan.specs.Lexing.{Lexeme, Lexed, lexed, piece, front_piece, with_first, from_piece}
+use Rattle.text_scan.specs.Lexing.{Lexeme, Lexed, lexed, lexed_from, nothing_lexed, piece, front_piece, with_first, from_piece}
 
 -- what was read before, and what is still read
 abbrev pub with_front : List Lexeme → Lexed → Lexed
@@ -54,40 +54,23 @@ at_end place (b ∷ rest) none = absurd (omega arith)
 pub with_front-with_first : (front : List Lexeme) (first : Lexeme) (read : Lexed) → with_front front (with_first first read) ≡ with_front (front ++ first ∷ []) read
 with_front-with_first front first others = ap (λ (ls : List Lexeme). let l : Lexed = record { tokens = ls; fault = others.fault } in l) (simp append_assoc)
 
--- ---- the loop
+-- ---- what a text gives from a place on
 
-pub gap_goes_on : (front : List Lexeme) (len place : ℕ) (text : List ℕ) (total : Lexed)
-    → front_piece (drop place text) ≡ Gap len → 1 ≤ len
-    → with_front front (lexed 0 place (drop place text)) ≡ total
-    → with_front front (lexed 0 (place + len) (drop (place + len) text)) ≡ total
-gap_goes_on front len place text total h one so_far =
-    let e : lexed 0 place (drop place text) ≡ lexed 0 (place + len) (drop (place + len) text) =
-    after_gap len place (drop place text) h one ∙ ap (λ (bytes : List ℕ). lexed 0 (place + len) bytes) (drop-drop len place text) in
-    ap (λ (read : Lexed). with_front front read) (sym e) ∙ so_far
+pub gap_passed : (len place : ℕ) (text : List ℕ) → front_piece (drop place text) ≡ Gap len → 1 ≤ len → lexed_from text place ≡ lexed_from text (place + len)
+gap_passed len place text h one = after_gap len place (drop place text) h one ∙ ap (λ (bytes : List ℕ). lexed 0 (place + len) bytes) (drop-drop len place text)
 
-pub word_goes_on : (front : List Lexeme) (kind : TokenKind) (len place : ℕ) (text : List ℕ) (total : Lexed)
-    → front_piece (drop place text) ≡ Word kind len → 1 ≤ len
-    → with_front front (lexed 0 place (drop place text)) ≡ total
-    → with_front (front ++ record { kind = kind; text = take len (drop place text); start = place } ∷ []) (lexed 0 (place + len) (drop (place + len) text)) ≡ total
-word_goes_on front kind len place text total h one so_far =
+pub word_first : (kind : TokenKind) (len place : ℕ) (text : List ℕ) → front_piece (drop place text) ≡ Word kind len → 1 ≤ len
+    → lexed_from text place ≡ with_first (record { kind = kind; text = take len (drop place text); start = place }) (lexed_from text (place + len))
+word_first kind len place text h one =
     let first : Lexeme = record { kind = kind; text = take len (drop place text); start = place } in
-    let e : lexed 0 place (drop place text) ≡ with_first first (lexed 0 (place + len) (drop (place + len) text)) =
-    after_word kind len place (drop place text) h one ∙ ap (λ (bytes : List ℕ). with_first first (lexed 0 (place + len) bytes)) (drop-drop len place text) in
-    sym (with_front-with_first front first (lexed 0 (place + len) (drop (place + len) text)))
-    ∙ ap (λ (read : Lexed). with_front front read) (sym e) ∙ so_far
+    after_word kind len place (drop place text) h one ∙ ap (λ (bytes : List ℕ). with_first first (lexed 0 (place + len) bytes)) (drop-drop len place text)
 
-pub fault_ends : (front : List Lexeme) (place : ℕ) (text : List ℕ) (total : Lexed)
-    → front_piece (drop place text) ≡ Fault → place < length text
-    → with_front front (lexed 0 place (drop place text)) ≡ total → total ≡ record { tokens = front; fault = Some place }
-fault_ends front place text total h lt so_far =
-    let some : 0 < length (drop place text) = omega (arith, length-drop place text) in
-    sym so_far ∙ ap (λ (read : Lexed). with_front front read) (at_fault place (drop place text) h some)
-    ∙ ap (λ (ls : List Lexeme). let l : Lexed = record { tokens = ls; fault = Some place } in l) (append-nil front)
+pub fault_there : (place : ℕ) (text : List ℕ) → front_piece (drop place text) ≡ Fault → place < length text → lexed_from text place ≡ nothing_lexed (Some place)
+fault_there place text h lt = at_fault place (drop place text) h (omega (arith, length-drop place text))
 
-pub end_ends : (front : List Lexeme) (place : ℕ) (text : List ℕ) (total : Lexed)
-    → length text ≤ place
-    → with_front front (lexed 0 place (drop place text)) ≡ total → total ≡ record { tokens = front; fault = None }
-end_ends front place text total le so_far =
-    let none : length (drop place text) ≤ 0 = omega (arith, length-drop place text) in
-    sym so_far ∙ ap (λ (read : Lexed). with_front front read) (at_end place (drop place text) none)
-    ∙ ap (λ (ls : List Lexeme). let l : Lexed = record { tokens = ls; fault = None } in l) (append-nil front)
+pub nothing_left : (place : ℕ) (text : List ℕ) → length text ≤ place → lexed_from text place ≡ nothing_lexed None
+nothing_left place text le = at_end place (drop place text) (omega (arith, length-drop place text))
+
+-- a token's length is that of its text
+pub length_of_word : (len place : ℕ) (text : List ℕ) → len ≤ length text - place → length (take len (drop place text)) ≡ len
+length_of_word len place text le = length-take-le len (drop place text) (omega (arith, length-drop place text))

@@ -6,6 +6,8 @@ use Rattle.text_scan.specs.declared.TokenKind.TheVariants.{Name, Var, Open, Clos
 use Rattle.text_scan.specs.declared.Piece.{Piece}
 use Rattle.text_scan.specs.declared.Piece.TheVariants.{Gap, Word, Fault}
 use Rattle.text_scan.specs.declared.Token.{Token}
+use Rattle.text_scan.specs.declared.Next.{Next}
+use Rattle.text_scan.specs.declared.Next.TheVariants as next
 use Rattle.text_scan.specs.declared.ScanFault.{ScanFault}
 use Rattle.text_scan.specs.declared.ScanFault.TheVariants as faults
 use Rattle.text_scan.specs.Bytes.{is_blank, is_letter, is_name_byte, is_comment_byte}
@@ -74,6 +76,23 @@ unfoldable pub lexed : ℕ → ℕ → List ℕ → Lexed
 lexed inside place [] = record { tokens = []; fault = None }
 lexed (suc inside) place (b ∷ rest) = lexed inside (suc place) rest
 lexed zero place (b ∷ rest) = from_piece (piece b rest) place (b ∷ rest) (λ inside. lexed inside (suc place) rest)
+
+-- what a text gives from this place on
+abbrev pub lexed_from : List ℕ → ℕ → Lexed
+lexed_from text place = lexed 0 place (drop place text)
+
+abbrev pub nothing_lexed : Option ℕ → Lexed
+nothing_lexed fault = record { tokens = []; fault = fault }
+
+-- the place behind a token
+abbrev pub behind : Token → ℕ
+behind t = t.start + length t.text.now
+
+-- what a text goes on with from this place on: its next token, the first byte at fault, or nothing
+abbrev pub IsNext : List ℕ → ℕ → Next → Type 0
+IsNext text from (next.Token t) = (lexed_from text from ≡ with_first (lexeme t) (lexed_from text (behind t))) × (from < behind t) × (behind t ≤ length text)
+IsNext text from (next.Fault place) = lexed_from text from ≡ nothing_lexed (Some place)
+IsNext text from next.End = lexed_from text from ≡ nothing_lexed None
 
 -- the tokens are slices of the text, one behind the other from this place on
 abbrev pub AreSlices : List ℕ → ℕ → List Lexeme → Type 0

@@ -5,7 +5,7 @@ ghost use Rattle.std.specs.Prelude.{IfOk, Ok, Err, ◌≡◌, ◌+◌, ◌-◌, 
 ghost use Rattle.std.specs.List.{prefix_len};
 ghost use Rattle.text_scan.specs.declared.ScanFault.TheVariants.{Memory};
 ghost use Rattle.text_scan.specs.Bytes.{is_letter, is_name_byte, is_comment_byte};
-ghost use Rattle.text_scan.specs.Lexing.{front_piece, named, variable, mark, LiesWithin, Scans, AreSlices, lexeme, lexed};
+ghost use Rattle.text_scan.specs.Lexing.{front_piece, named, variable, mark, LiesWithin, Scans, AreSlices, IsNext, lexeme, lexed};
 
 use std::alloc::{AllocError, Global};
 
@@ -178,6 +178,34 @@ fn token_at<'a>(text: &'a [u8], kind: TokenKind, start: usize, len: usize) -> To
     }
 }
 
+/// What a text goes on with behind blanks and comments.
+#[derive(Clone, Copy, Debug)]
+pub enum Next<'a> {
+    /// A token.
+    Token(Token<'a>),
+    /// The place of a byte that is in no token, blank or comment.
+    Fault(usize),
+    /// Nothing more.
+    End,
+}
+
+/// What the text goes on with from a place on.
+#[inline]
+pub fn next_token<'a>(text: &'a [u8], from: usize) -> Next<'a>
+    requires { from ≤ length text.now }
+    ensures { IsNext text.now from result }
+{
+    let mut place = from;
+    while place < text.len() {
+        match piece_at(text, place) {
+            Piece::Gap(len) => place += len,
+            Piece::Word(kind, len) => return Next::Token(token_at(text, kind, place, len)),
+            Piece::Fault => return Next::Fault(place),
+        }
+    }
+    Next::End
+}
+
 /// The tokens from the front on, and the first byte at fault where one stops them.
 #[derive(Debug, Drop)]
 pub struct Front<'a> {
@@ -191,25 +219,24 @@ pub fn scan_front<'a>(alloc: Global, text: &'a [u8]) -> Result<Front<'a>, AllocE
 {
     let mut tokens = Vec::new(alloc);
     let mut place = 0;
-    while place < text.len() {
-        match piece_at(text, place) {
-            Piece::Gap(len) => place += len,
-            Piece::Word(kind, len) => {
-                tokens.push(token_at(text, kind, place, len))?;
-                place += len;
+    loop {
+        match next_token(text, place) {
+            Next::Token(token) => {
+                place = token.start + token.text.len();
+                tokens.push(token)?;
             }
-            Piece::Fault => {
+            Next::Fault(fault) => {
                 return Ok(Front {
                     tokens,
-                    fault: Some(place),
+                    fault: Some(fault),
                 });
             }
+            Next::End => return Ok(Front {
+                tokens,
+                fault: None,
+            }),
         }
     }
-    Ok(Front {
-        tokens,
-        fault: None,
-    })
 }
 
 /// The tokens of the text, or the first byte that is in no token, blank or comment.
