@@ -1,0 +1,100 @@
+-- What a line does to the ontology of the lines before it. The order of the faults is that of the tests.
+use Rattle.std.specs.Prelude.{ℕ, Bool, ◌||◌, nat_lt, if◌then◌else◌, List, [], ◌∷◌, ◌++◌, length, position, Option, Some, None, is_some, Result, Ok, Err}
+use Rattle.std.specs.Str.{bytes_eq}
+use Rattle.dl_syntax.specs.declared.names.Kind.{Kind}
+use Rattle.dl_syntax.specs.declared.names.Kind.TheVariants.{Concept, Role, Individual}
+use Rattle.dl_syntax.specs.declared.ontology.Role as roles
+use Rattle.dl_syntax.specs.declared.ontology.Basic.{Basic}
+use Rattle.dl_syntax.specs.declared.ontology.Basic.TheVariants as basic
+use Rattle.dl_syntax.specs.declared.ontology.Inclusion.{Inclusion}
+use Rattle.dl_syntax.specs.declared.ontology.Inclusion.TheVariants as inclusion
+use Rattle.dl_syntax.specs.declared.ontology.Clash.{Clash}
+use Rattle.dl_syntax.specs.declared.ontology.Clash.TheVariants as clash
+use Rattle.dl_syntax.specs.Ontology.{Declared, names_of, with_name, with_inclusion, most_names}
+use Rattle.ontology_reader.specs.declared.OntologyKind.{OntologyKind}
+use Rattle.ontology_reader.specs.declared.OntologyKind.TheVariants.{BadLine, NameTwice, Unknown, WrongKind, TooMany}
+use Rattle.ontology_reader.specs.Sayings.{RoleTerm, BasicTerm, concept, existing, Saying, nothing, declares, includes, includes_qualified, includes_roles, parts, parts_roles, has_no_form, line_says}
+
+-- the number of the name of this kind, in order of declaration
+abbrev pub number_of : Kind → Declared → List ℕ → Option ℕ
+number_of kind o text = position (λ known. bytes_eq text known) (names_of kind o)
+
+abbrev pub is_declared : Declared → List ℕ → Bool
+is_declared o text = is_some (number_of Concept o text) || is_some (number_of Role o text) || is_some (number_of Individual o text)
+
+-- an ontology has at most so many inclusions and so many clashes
+abbrev pub most_inclusions : ℕ
+most_inclusions = 16384
+
+abbrev pub most_clashes : ℕ
+most_clashes = 4096
+
+infixl 10 ◌>>=◌
+abbrev pub ◌>>=◌ : {A B : Type 0} → Result A OntologyKind → (A → Result B OntologyKind) → Result B OntologyKind
+(Ok x) >>= f = f x
+(Err e) >>= f = Err e
+
+-- a value where there is room
+abbrev pub if_fewer : {X : Type 0} → ℕ → ℕ → X → Result X OntologyKind
+if_fewer count most x = if nat_lt count most then Ok x else Err TooMany
+
+abbrev pub declared : Declared → Kind → List ℕ → Result Declared OntologyKind
+declared o kind text =
+    if is_declared o text then Err NameTwice
+    else if_fewer (length (names_of kind o)) (most_names kind) (with_name kind text o)
+
+-- the number of a name that is to be of this kind, by the number of the name of this kind
+abbrev pub number_or_fault : Option ℕ → Bool → Result ℕ OntologyKind
+number_or_fault (Some number) of_some_kind = Ok number
+number_or_fault None of_some_kind = if of_some_kind then Err WrongKind else Err Unknown
+
+abbrev pub resolved : Declared → Kind → List ℕ → Result ℕ OntologyKind
+resolved o kind text = number_or_fault (number_of kind o text) (is_declared o text)
+
+abbrev pub role_of : Declared → RoleTerm → Result roles.Role OntologyKind
+role_of o r = do
+  number ← resolved o Role r.role
+  Ok (record { id = record { 0 = number }; inverse = r.inverse })
+
+abbrev pub basic_of : Declared → BasicTerm → Result Basic OntologyKind
+basic_of o (concept text) = do
+  number ← resolved o Concept text
+  Ok (basic.Concept (record { 0 = number }))
+basic_of o (existing r) = do
+  role ← role_of o r
+  Ok (basic.Some role)
+
+abbrev pub included : Declared → Inclusion → Result Declared OntologyKind
+included o i = if_fewer (length o.inclusions) most_inclusions (with_inclusion i o)
+
+abbrev pub parted : Declared → Clash → Result Declared OntologyKind
+parted o m = if_fewer (length o.clashes) most_clashes (record o { clashes = o.clashes ++ m ∷ [] })
+
+unfoldable pub added : Declared → Saying → Result Declared OntologyKind
+added o nothing = Ok o
+added o (declares kind text) = declared o kind text
+added o (includes left right) = do
+  b ← basic_of o left
+  c ← basic_of o right
+  included o (inclusion.Concepts b c)
+added o (includes_qualified left role text) = do
+  b ← basic_of o left
+  r ← role_of o role
+  number ← resolved o Concept text
+  included o (inclusion.Qualified b r (record { 0 = number }))
+added o (includes_roles left right) = do
+  r ← role_of o left
+  s ← role_of o right
+  included o (inclusion.Roles r s)
+added o (parts left right) = do
+  b ← basic_of o left
+  c ← basic_of o right
+  parted o (clash.Concepts b c)
+added o (parts_roles left right) = do
+  r ← role_of o left
+  s ← role_of o right
+  parted o (clash.Roles r s)
+added o has_no_form = Err BadLine
+
+unfoldable pub line_added : Declared → List ℕ → Result Declared OntologyKind
+line_added o line = added o (line_says line)
