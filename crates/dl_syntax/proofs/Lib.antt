@@ -1,3 +1,5 @@
+pub mod AllByCons
+pub mod OntologyLaws
 pub mod RunLaws
 pub mod FactLaws
 pub mod Rising
