@@ -1,6 +1,7 @@
 ghost use Rattle.std.specs.Prelude.{◌≡◌};
 ghost use Rattle.dl_syntax.specs.Snapshots.{IsSnapshot};
 
+use crate::Memory;
 use crate::facts::Fact;
 use std::marker::Model;
 
@@ -37,5 +38,14 @@ impl Snapshot {
         ensures sound { IsSnapshot self.now }
     {
         self.facts.as_slice()
+    }
+}
+
+impl Clone for Snapshot {
+    ghost is_clone = { λ a b. b ≡ a };
+
+    fn clone(&self) -> Result<Snapshot, Memory> {
+        let facts = self.facts.clone()?;
+        Ok(Snapshot { facts })
     }
 }
