@@ -3,6 +3,6 @@ pub mod Known
 pub mod Lines
 pub mod Reading
 pub mod Window
-pub mod MemoryObjects
+pub mod InMemory
 pub mod Held
 pub mod Writing
