@@ -1,3 +1,4 @@
 pub mod Sayings
+pub mod Views
 pub mod Adding
 pub mod Texts

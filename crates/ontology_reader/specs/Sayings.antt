@@ -9,13 +9,13 @@ use Rattle.dl_syntax.specs.declared.names.Kind.{Kind}
 use Rattle.dl_syntax.specs.declared.names.Kind.TheVariants.{Concept, Role, Individual}
 
 -- `some` and `inv` stand for no name
-pub data Term : Type 0 where
-  some : Term
-  inv : Term
-  name : List ℕ → Term
+pub data Word : Type 0 where
+  some : Word
+  inv : Word
+  name : List ℕ → Word
 
-abbrev pub term : List ℕ → Term
-term text = if bytes_eq text (codes "some") then some else if bytes_eq text (codes "inv") then inv else name text
+abbrev pub word_of : List ℕ → Word
+word_of text = if bytes_eq text (codes "some") then some else if bytes_eq text (codes "inv") then inv else name text
 
 -- a role or its inverse, by the role's name
 pub record RoleTerm : Type 0 where
@@ -39,41 +39,41 @@ pub data Saying : Type 0 where
 
 -- ---- what the words begin with, and the words behind it
 
-abbrev pub role_first : List Term → Option (RoleTerm × List Term)
+abbrev pub role_first : List Word → Option (RoleTerm × List Word)
 role_first (name r ∷ rest) = Some (record { role = r; inverse = false }, rest)
 role_first (inv ∷ name r ∷ rest) = Some (record { role = r; inverse = true }, rest)
 role_first _ = None
 
-abbrev pub basic_first : List Term → Option (BasicTerm × List Term)
+abbrev pub basic_first : List Word → Option (BasicTerm × List Word)
 basic_first (name c ∷ rest) = Some (concept c, rest)
 basic_first (some ∷ rest) = option_map (λ found. (existing found.0, found.1)) (role_first rest)
 basic_first _ = None
 
 -- ---- the forms of a line behind its first word
 
-abbrev pub declaration : Kind → List Term → Saying
+abbrev pub declaration : Kind → List Word → Saying
 declaration kind (name n ∷ []) = declares kind n
 declaration kind _ = has_no_form
 
 -- the right side of an inclusion; `some R N` is qualified
-abbrev pub right_of : BasicTerm → BasicTerm × List Term → Saying
+abbrev pub right_of : BasicTerm → BasicTerm × List Word → Saying
 right_of left (right, []) = includes left right
 right_of left (existing r, name c ∷ []) = includes_qualified left r c
 right_of left _ = has_no_form
 
-abbrev pub inclusion : List Term → Saying
+abbrev pub inclusion : List Word → Saying
 inclusion rest = option_map_or (λ left. option_map_or (right_of left.0) (basic_first left.1) has_no_form) (basic_first rest) has_no_form
 
 -- two terms with nothing behind them
-abbrev pub last_two : {X : Type 0} → (X → X → Saying) → X → X × List Term → Saying
+abbrev pub last_two : {X : Type 0} → (X → X → Saying) → X → X × List Word → Saying
 last_two says left (right, []) = says left right
 last_two says left _ = has_no_form
 
-abbrev pub pair_of : {X : Type 0} → (List Term → Option (X × List Term)) → (X → X → Saying) → List Term → Saying
+abbrev pub pair_of : {X : Type 0} → (List Word → Option (X × List Word)) → (X → X → Saying) → List Word → Saying
 pair_of first says rest = option_map_or (λ left. option_map_or (last_two says left.0) (first left.1) has_no_form) (first rest) has_no_form
 
 -- by its first word
-abbrev pub line_form : List ℕ → List Term → Saying
+abbrev pub line_form : List ℕ → List Word → Saying
 line_form word rest =
     if bytes_eq word (codes "concept") then declaration Concept rest
     else if bytes_eq word (codes "role") then declaration Role rest
@@ -84,10 +84,10 @@ line_form word rest =
     else if bytes_eq word (codes "disjointrole") then pair_of role_first parts_roles rest
     else has_no_form
 
-unfoldable pub terms_say : List Term → Saying
-terms_say [] = nothing
-terms_say (name word ∷ rest) = line_form word rest
-terms_say _ = has_no_form
+unfoldable pub words_say : List Word → Saying
+words_say [] = nothing
+words_say (name word ∷ rest) = line_form word rest
+words_say _ = has_no_form
 
 -- ---- from tokens to words
 
@@ -96,13 +96,13 @@ is_name_kind token.Name = true
 is_name_kind _ = false
 
 -- the words of a line whose tokens are names
-unfoldable pub terms_of : List Lexeme → Option (List Term)
-terms_of [] = Some []
-terms_of (l ∷ ls) = if is_name_kind l.kind then option_map (λ rest. term l.text ∷ rest) (terms_of ls) else None
+unfoldable pub words_of : List Lexeme → Option (List Word)
+words_of [] = Some []
+words_of (l ∷ ls) = if is_name_kind l.kind then option_map (λ rest. word_of l.text ∷ rest) (words_of ls) else None
 
 -- a line with a byte at fault has no words
-abbrev pub terms_read : Lexed → Option (List Term)
-terms_read read = option_map_or (λ fault. None) read.fault (terms_of read.tokens)
+abbrev pub words_read : Lexed → Option (List Word)
+words_read read = option_map_or (λ fault. None) read.fault (words_of read.tokens)
 
 unfoldable pub line_says : List ℕ → Saying
-line_says line = option_map_or terms_say (terms_read (lexed 0 0 line)) has_no_form
+line_says line = option_map_or words_say (words_read (lexed 0 0 line)) has_no_form

@@ -3,6 +3,9 @@
 
 ghost use Rattle.ontology_reader.specs.Texts.{Reads};
 
+mod sayings;
+mod words;
+
 use dl_syntax::Ontology;
 use std::alloc::Global;
 

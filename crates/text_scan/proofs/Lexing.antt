@@ -1,10 +1,10 @@
 -- Reading one piece after the other, as a loop does.
-use Rattle.std.proofs.Common.{◌≡◌, ℕ, zero, suc, ◌+◌, ◌-◌, ◌≤◌, ◌<◌, List, [], ◌∷◌, ◌++◌, length, take, drop, Option, Some, None, refl, sym, ap, ◌∙◌, append_assoc, arith, add-zero, drop-drop, length-drop}
-use Rattle.std.proofs.lemmas.List.{append-nil, length-take-le}
+use Rattle.std.proofs.Common.{◌≡◌, ℕ, zero, suc, ◌+◌, ◌-◌, ◌≤◌, ◌<◌, List, [], ◌∷◌, ◌++◌, length, take, drop, Some, None, refl, ap, ◌∙◌, append_assoc, arith, add-zero, drop-drop, length-drop}
+use Rattle.std.proofs.lemmas.List.{length-take-le}
 use Rattle.text_scan.specs.declared.Piece.{Piece}
 use Rattle.text_scan.specs.declared.Piece.TheVariants.{Gap, Word, Fault}
 use Rattle.text_scan.specs.declared.TokenKind.{TokenKind}
-use Rattle.text_scan.specs.Lexing.{Lexeme, Lexed, lexed, lexed_from, nothing_lexed, piece, front_piece, with_first, from_piece}
+use Rattle.text_scan.specs.Lexing.{Lexeme, Lexed, lexed, lexed_from, nothing_lexed, front_piece, with_first, from_piece}
 
 -- what was read before, and what is still read
 abbrev pub with_front : List Lexeme → Lexed → Lexed

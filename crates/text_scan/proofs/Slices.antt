@@ -1,5 +1,5 @@
 -- The tokens are slices of the text, one behind the other.
-use Rattle.std.proofs.Common.{◌≡◌, ℕ, zero, suc, ◌+◌, ◌-◌, ◌≤◌, ◌<◌, Bool, true, false, cond, leb, List, [], ◌∷◌, ◌++◌, length, take, drop, Option, Some, None, refl, sym, ap, subst, ◌∙◌, arith, eqb, drop-drop}
+use Rattle.std.proofs.Common.{◌≡◌, ℕ, zero, suc, ◌+◌, ◌-◌, ◌≤◌, Bool, true, false, cond, leb, List, [], ◌∷◌, length, take, drop, refl, ap, ◌∙◌, arith, eqb, drop-drop}
 use Rattle.std.specs.List.{prefix_len}
 use Rattle.std.proofs.lemmas.List.{length-take-le}
 use Rattle.std.proofs.lemmas.List.Sums.{prefix_len-le-length}
@@ -32,9 +32,9 @@ piece_within : (b : ℕ) (rest : List ℕ) → LiesWithin (1 + length rest) (pie
 piece_within b rest =
     let P : Piece → Type 0 = LiesWithin (1 + length rest) in
     choose P (is_letter b) _ _ (named_within (1 + length rest) Name 1 rest (omega arith) (omega arith))
-      (choose P (is_blank b) _ _ (omega arith, omega arith)
-      (choose P (eqb b 35) _ _ (omega arith, omega (arith, prefix_len-le-length is_comment_byte rest))
-      (choose P (eqb b 63) _ _ (variable_within (1 + length rest) rest (omega arith)) (mark_within (1 + length rest) b (omega arith)))))
+    (choose P (is_blank b) _ _ (omega arith, omega arith)
+    (choose P (eqb b 35) _ _ (omega arith, omega (arith, prefix_len-le-length is_comment_byte rest))
+    (choose P (eqb b 63) _ _ (variable_within (1 + length rest) rest (omega arith)) (mark_within (1 + length rest) b (omega arith)))))
 
 -- slices from a place on are slices from an earlier place on
 from_earlier : (text : List ℕ) (from earlier : ℕ) (ls : List Lexeme) → earlier ≤ from → AreSlices text from ls → AreSlices text earlier ls
@@ -46,9 +46,12 @@ piece_slices : (text : List ℕ) (place b : ℕ) (rest : List ℕ) (p : Piece) (
 piece_slices text place b rest (Gap len) others e h later = from_earlier text (suc place + (len - 1)) place (others (len - 1)).tokens (omega arith) (later (len - 1))
 piece_slices text place b rest (Word kind len) others e h later =
     let len_is : length (take len (b ∷ rest)) ≡ len = length-take-le len (b ∷ rest) (omega (arith, h.1)) in
-    let next : suc place + (len - 1) ≡ place + length (take len (b ∷ rest)) = omega (arith, len_is, h.0) in
-    (omega arith, omega (arith, len_is, h.0), (rw len_is (ap (take len) e)),
-     from_earlier text (suc place + (len - 1)) (place + length (take len (b ∷ rest))) (others (len - 1)).tokens (omega (arith, next)) (later (len - 1)))
+    let next : suc place + (len - 1) ≡ place + length (take len (b ∷ rest)) = omega (arith, len_is, h.0) in (
+      omega arith,
+      omega (arith, len_is, h.0),
+      (rw len_is (ap (take len) e)),
+      from_earlier text (suc place + (len - 1)) (place + length (take len (b ∷ rest))) (others (len - 1)).tokens (omega (arith, next)) (later (len - 1)),
+    )
 piece_slices text place b rest Fault others e h later = tt
 
 rest_of : (text : List ℕ) (place b : ℕ) (rest : List ℕ) → b ∷ rest ≡ drop place text → rest ≡ drop (suc place) text
@@ -59,7 +62,7 @@ unfolding lexed
 slices_from [] text inside place e = tt
 slices_from (b ∷ rest) text zero place e =
     from_earlier text place (place + 0) _ (omega arith)
-      (piece_slices text place b rest (piece b rest) (λ inside. lexed inside (suc place) rest) e (piece_within b rest) (λ inside. slices_from rest text inside (suc place) (rest_of text place b rest e)))
+    (piece_slices text place b rest (piece b rest) (λ inside. lexed inside (suc place) rest) e (piece_within b rest) (λ inside. slices_from rest text inside (suc place) (rest_of text place b rest e)))
 slices_from (b ∷ rest) text (suc inside) place e =
     from_earlier text (suc place + inside) (place + suc inside) _ (omega arith) (slices_from rest text inside (suc place) (rest_of text place b rest e))
 

@@ -1,5 +1,5 @@
 -- The tokens of a text.
-use Rattle.std.specs.Prelude.{◌≡◌, ℕ, zero, suc, ◌+◌, ◌-◌, ◌≤◌, Bool, ◌==◌, nat_le, ◌||◌, ◌&&◌, if◌then◌else◌, List, [], ◌∷◌, take, drop, map, Result, Ok, Err, Option, Some, None, length, ◌<◌}
+use Rattle.std.specs.Prelude.{◌≡◌, ℕ, zero, suc, ◌+◌, ◌-◌, ◌≤◌, ◌==◌, nat_le, if◌then◌else◌, List, [], ◌∷◌, take, drop, Result, Ok, Err, Option, Some, None, length, ◌<◌}
 use Rattle.std.specs.List.{prefix_len}
 use Rattle.text_scan.specs.declared.TokenKind.{TokenKind}
 use Rattle.text_scan.specs.declared.TokenKind.TheVariants.{Name, Var, Open, Close, Square, Unsquare, Comma, Semi, Equal, Bar, Amp}

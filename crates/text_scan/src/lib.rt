@@ -2,10 +2,11 @@
 #![tactic(auto)]
 
 ghost use Rattle.std.specs.Prelude.{IfOk, Ok, Err, ◌≡◌, ◌+◌, ◌-◌, ◌≤◌, ◌<◌, ◌||◌, ◌&&◌, length, drop, take, map};
-ghost use Rattle.std.specs.List.{prefix_len};
+ghost use Rattle.std.specs.List.{prefix_len, All};
 ghost use Rattle.text_scan.specs.declared.ScanFault.TheVariants.{Memory};
 ghost use Rattle.text_scan.specs.Bytes.{is_letter, is_name_byte, is_comment_byte};
 ghost use Rattle.text_scan.specs.Lexing.{front_piece, named, variable, mark, LiesWithin, Scans, AreSlices, IsNext, lexeme, lexed};
+ghost use Rattle.text_scan.specs.Spelling.{IsSpelled};
 
 use std::alloc::{AllocError, Global};
 
@@ -243,6 +244,7 @@ pub fn scan_front<'a>(alloc: Global, text: &'a [u8]) -> Result<Front<'a>, AllocE
 pub fn scan<'a>(alloc: Global, text: &'a [u8]) -> Result<Vec<Token<'a>>, ScanFault>
     ensures exact { Scans (λ v. map lexeme v.items) result (lexed 0 0 text.now) }
     ensures slices { IfOk result (λ v. AreSlices text.now 0 (map lexeme v.items)) }
+    ensures spelled { IfOk result (λ v. All IsSpelled (map lexeme v.items)) }
 {
     let front = scan_front(alloc, text)?;
     match front.fault {

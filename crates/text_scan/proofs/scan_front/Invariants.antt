@@ -1,4 +1,4 @@
-use Rattle.std.proofs.Common.{◌≡◌, ◌-◌, ◌≤◌, length, drop, map}
+use Rattle.std.proofs.Common.{◌≡◌, ◌-◌, ◌≤◌, length, map}
 use Rattle.text_scan.specs.Lexing.{lexeme, lexed, lexed_from}
 use Rattle.text_scan.proofs.Lexing.{with_front}
 use Rattle.text_scan.proofs.scan_front.Given as goal
