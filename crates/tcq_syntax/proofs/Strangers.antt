@@ -6,7 +6,7 @@ use Rattle.std.proofs.Math.ListN.{get_or-map}
 use Rattle.std.proofs.lemmas.Bool.{cases_lt}
 use Rattle.std.proofs.lemmas.List.{get_or_past, length-map}
 use Rattle.std.proofs.lemmas.List as std_list
-use Rattle.std.proofs.lemmas.List.Elements.{All-contains, All-get_or, Contains-append_cases}
+use Rattle.std.proofs.lemmas.List.Elements.{All-contains, All-get_or}
 use Rattle.dl_syntax.specs.declared.names.IndId.{IndId}
 use Rattle.dl_syntax.specs.declared.facts.Element.TheVariants.{Ind as ind_element}
 use Rattle.dl_syntax.specs.declared.facts.Fact.{Fact}
@@ -16,11 +16,11 @@ use Rattle.dl_syntax.specs.declared.queries.Term.TheVariants.{Var, Ind}
 use Rattle.dl_syntax.specs.declared.queries.Atom.{Atom}
 use Rattle.dl_syntax.specs.declared.queries.Atom.TheVariants as atom
 use Rattle.dl_syntax.specs.declared.queries.Cq.{Cq}
+use Rattle.dl_syntax.specs.Queries.{HasTerm}
 use Rattle.dl_syntax.specs.Match.{Assignment, Certain, term_at, atom_at}
-use Rattle.dl_syntax.proofs.Rising.{Contains-first, Contains-later}
-use Rattle.dl_syntax.proofs.Nulls.{Contains-single}
+use Rattle.dl_syntax.proofs.AllByCons.{Contains-first, Contains-later}
 use Rattle.tcq_syntax.specs.Formula.{Formula, True, False, Leaf, And, Or, Next, WeakNext, Prev, WeakPrev, Until, Since, Eventually, Always, Once, Historically, formula_at}
-use Rattle.tcq_syntax.specs.Tcq.{IsLeaf, term_variables, atom_variables, body_variables}
+use Rattle.tcq_syntax.specs.Tcq.{IsLeaf}
 use Rattle.tcq_syntax.specs.Histories.{History, snapshot_at, individuals_of, with_name, IsElementBelow, HasElementsBelow, HasIndividualsBelow, or_stranger}
 use Rattle.tcq_syntax.specs.Time.{place_of, part_of, LeafHolds}
 use Rattle.tcq_syntax.specs.End.{EndHolds, EachLeaf, IsMinimal}
@@ -45,26 +45,11 @@ map_map : {X Y Z : Type 0} (f : Y → Z) (g : X → Y) (xs : List X) → map f (
 map_map f g [] = refl
 map_map f g (x ∷ xs) = ap (λ ys. f (g x) ∷ ys) (map_map f g xs)
 
--- a variable of a matched body goes to an element of the run
-module _ (count : ℕ) (t : Assignment) where
-  term_known : (x : Term) (v : ℕ) → Contains (term_variables x) v → IsElementBelow count (term_at t x) → IsElementBelow count (t v)
-  term_known (Var w) v there below = subst (λ (u : ℕ). IsElementBelow count (t u)) (Contains-single w v there) below
-  term_known (Ind i) v there below = absurd (omega (arith, there.1))
-
-  atom_known : (a : Atom) (v : ℕ) → Contains (atom_variables a) v → HasElementsBelow count (atom_at t a) → IsElementBelow count (t v)
-  atom_known (atom.Concept c x) v there below = term_known x v there below
-  atom_known (atom.Role p x y) v there below = elim (Contains-append_cases (term_variables x) (term_variables y) v there) [
-      | inl left ↦ term_known x v left below.0
-      | inr right ↦ term_known y v right below.1
-    ]
-
--- the atom that has the variable
-has_variable : (body : List Atom) (v : ℕ) → Contains (body_variables body) v → (a : Atom) × Contains body a × Contains (atom_variables a) v
-has_variable [] v there = absurd (omega (arith, there.1))
-has_variable (a ∷ body) v there = elim (Contains-append_cases (atom_variables a) (body_variables body) v there) [
-    | inl here ↦ (a, Contains-first a body, here)
-    | inr later ↦ let found = has_variable body v later in (found.0, Contains-later a body found.0 found.1, found.2)
-  ]
+-- a variable of a matched atom goes to an element of the fact
+variable_known : (count : ℕ) (t : Assignment) (a : Atom) (v : ℕ) → HasTerm a (Var v) → HasElementsBelow count (atom_at t a) → IsElementBelow count (t v)
+variable_known count t (atom.Concept c x) v is below = subst (λ (y : Term). IsElementBelow count (term_at t y)) is below
+variable_known count t (atom.Role p x y) v (inl is) below = subst (λ (z : Term). IsElementBelow count (term_at t z)) is below.0
+variable_known count t (atom.Role p x y) v (inr is) below = subst (λ (z : Term). IsElementBelow count (term_at t z)) is below.1
 
 module _ (inclusions : List Inclusion) (count : ℕ) (history : History) (known : HasIndividualsBelow count history) where
   snapshot_known : (i : ℕ) (f : Fact) → Contains (snapshot_at history i) f → HasElementsBelow count f
@@ -79,11 +64,11 @@ module _ (inclusions : List Inclusion) (count : ℕ) (history : History) (known 
   -- an answer of a leaf has only known individuals
   answer_known : (vars : ℕ) (row : List IndId) (q : Cq) → IsLeaf vars q → (i : ℕ) → LeafHolds inclusions history row q i → (v : ℕ) → Contains q.head (Var v) → (place_of row (Var v)).0 < count
   answer_known vars row q leaf i holds v there =
-      let found = has_variable q.body v (((leaf.head.member v).0 there).1) in
-      let in_run = All-contains (λ a. Contains holds.run (atom_at holds.assignment a)) q.body found.0 holds.match found.1 in
-      let below : HasElementsBelow count (atom_at holds.assignment found.0) = run_below count inclusions (snapshot_at history i) (snapshot_known i) holds.is_run.0 holds.run holds.is_run.1 (atom_at holds.assignment found.0) in_run in
+      let (place, a, within, is, bound) = ((leaf.head.member v).0 there).1 in
+      let in_run = All-contains (λ b. Contains holds.run (atom_at holds.assignment b)) q.body a holds.match (place, within, is) in
+      let below : HasElementsBelow count (atom_at holds.assignment a) = run_below count inclusions (snapshot_at history i) (snapshot_known i) holds.is_run.0 holds.run holds.is_run.1 (atom_at holds.assignment a) in_run in
       let goes : term_at holds.assignment (Var v) ≡ ind_element (place_of row (Var v)) = same_at (term_at holds.assignment) (λ x. ind_element (place_of row x)) q.head (holds.head ∙ map_map ind_element (place_of row) q.head) (Var v) there in
-      subst (IsElementBelow count) goes (atom_known count holds.assignment found.0 v found.2 below)
+      subst (IsElementBelow count) goes (variable_known count holds.assignment a v bound below)
 
 -- the row with the stranger in place of every number that no individual has
 module _ (count : ℕ) (row : List IndId) where

@@ -6,6 +6,7 @@ use Rattle.dl_syntax.specs.declared.queries.Term.TheVariants.{Var, Ind}
 use Rattle.dl_syntax.specs.declared.queries.Atom.{Atom}
 use Rattle.dl_syntax.specs.declared.queries.Atom.TheVariants as atom
 use Rattle.dl_syntax.specs.declared.queries.Cq.{Cq}
+use Rattle.dl_syntax.specs.Queries.{IsBound, IsQuery}
 use Rattle.tcq_syntax.specs.declared.nodes.Node.{Node}
 use Rattle.tcq_syntax.specs.declared.nodes.Node.TheVariants as node
 use Rattle.tcq_syntax.specs.Formula.{Formula, True, False, Leaf, And, Or, Next, WeakNext, Prev, WeakPrev, Until, Since, Eventually, Always, Once, Historically, is_future}
@@ -56,7 +57,7 @@ body_variables (a ∷ body) = atom_variables a ++ body_variables body
 pub record IsAnswerHead (vars : ℕ) (q : Cq) : Type 0 where
   pub rising : AllPairs (λ x y. (v w : ℕ) → x ≡ Var v → y ≡ Var w → v < w) q.head
   pub variables : All (λ x. (v : ℕ) × (x ≡ Var v)) q.head
-  pub member : (v : ℕ) → Contains q.head (Var v) ↔ (v < vars) × Contains (body_variables q.body) v
+  pub member : (v : ℕ) → Contains q.head (Var v) ↔ (v < vars) × IsBound q.body (Var v)
 
 -- before a variable from the number on, all those between have occurred
 abbrev pub IsNumberedFrom : ℕ → List ℕ → Type 0
@@ -64,8 +65,7 @@ IsNumberedFrom vars variables = (place v w : ℕ) → slice_get variables place 
 
 -- a conjunctive query as a leaf of a query with so many answer variables
 pub record IsLeaf (vars : ℕ) (q : Cq) : Type 0 where
-  pub some_atom : 1 ≤ length q.body
-  pub few_atoms : length q.body ≤ 8
+  pub query : IsQuery q
   pub head : IsAnswerHead vars q
   pub numbered : IsNumberedFrom vars (body_variables q.body)
 
