@@ -12,14 +12,14 @@ use Rattle.tcq_syntax.specs.Laws.{ChildrenAreBelow}
 -- what holds of each element and of one more, holds of each with that one last
 pub each_push : (X : Type 0) (P : ℕ → X → Type 0) (xs : List X) (x : X) → ((place : ℕ) (y : X) → slice_get xs place ≡ Some y → P place y) → P (length xs) x → (place : ℕ) (y : X) → slice_get (xs ++ x ∷ []) place ≡ Some y → P place y
 each_push X P xs x each last place y at = elim (cases_lt place (length xs)) [
-    | inl inside ↦
-        let same : slice_index_or xs place y ≡ y = sym (get_or_append_left xs (x ∷ []) y place inside) ∙ get_or_from_slice_get (xs ++ x ∷ []) place y y at in
-        each place y (slice_get-get_or xs place y inside ∙ ap Some same)
-    | inr past ↦
-        let end : length xs ≡ place = omega (arith, slice_get_within (xs ++ x ∷ []) place y at, length-append xs (x ∷ [])) in
-        let same : x ≡ y = sym (get_or_push xs x y place end) ∙ get_or_from_slice_get (xs ++ x ∷ []) place y y at in
-        subst (λ (k : ℕ). P k y) end (subst (P (length xs)) same last)
-  ]
+  | inl inside ↦
+      let same : slice_index_or xs place y ≡ y = sym (get_or_append_left xs (x ∷ []) y place inside) ∙ get_or_from_slice_get (xs ++ x ∷ []) place y y at in
+      each place y (slice_get-get_or xs place y inside ∙ ap Some same)
+  | inr past ↦
+      let end : length xs ≡ place = omega (arith, slice_get_within (xs ++ x ∷ []) place y at, length-append xs (x ∷ [])) in
+      let same : x ≡ y = sym (get_or_push xs x y place end) ∙ get_or_from_slice_get (xs ++ x ∷ []) place y y at in
+      subst (λ (k : ℕ). P k y) end (subst (P (length xs)) same last)
+]
 
 table_push : (nodes : List Node) (n : Node) → IsTable nodes → HasChildrenBelow (length nodes) n → IsTable (nodes ++ n ∷ [])
 table_push nodes n table below = each_push Node HasChildrenBelow nodes n table below
