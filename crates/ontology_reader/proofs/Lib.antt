@@ -1,1 +1,5 @@
 pub mod WordsRead
+pub mod Numbers
+pub mod Declared
+pub mod Declarable
+pub mod LinesAdded

@@ -1,6 +1,5 @@
 -- The words of a line, read one after the other.
-use Rattle.std.proofs.Common.{◌≡◌, ℕ, Bool, true, false, cond, List, [], ◌∷◌, ◌++◌, Option, Some, None, refl, sym, ap, ◌∙◌, append_assoc}
-use Rattle.std.proofs.lemmas.List.{append-nil}
+use Rattle.std.proofs.Common.{◌≡◌, ℕ, true, false, List, [], ◌∷◌, ◌++◌, Option, Some, None, refl, ap, ◌∙◌, append_assoc}
 use Rattle.std.specs.Option.{option_map, option_map_or}
 use Rattle.text_scan.specs.Lexing.{Lexeme, Lexed, with_first, nothing_lexed}
 use Rattle.ontology_reader.specs.Sayings.{Word, word_of, is_name_kind, words_of, words_read}

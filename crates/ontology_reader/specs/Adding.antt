@@ -1,5 +1,5 @@
 -- What a line does to the ontology of the lines before it. The order of the faults is that of the tests.
-use Rattle.std.specs.Prelude.{ℕ, Bool, ◌||◌, nat_lt, if◌then◌else◌, List, [], ◌∷◌, ◌++◌, length, position, Option, Some, None, is_some, Result, Ok, Err}
+use Rattle.std.specs.Prelude.{ℕ, Bool, ◌||◌, nat_lt, if◌then◌else◌, List, length, position, Option, Some, None, is_some, Result, Ok, Err}
 use Rattle.std.specs.Str.{bytes_eq}
 use Rattle.dl_syntax.specs.declared.names.Kind.{Kind}
 use Rattle.dl_syntax.specs.declared.names.Kind.TheVariants.{Concept, Role, Individual}
@@ -10,7 +10,7 @@ use Rattle.dl_syntax.specs.declared.ontology.Inclusion.{Inclusion}
 use Rattle.dl_syntax.specs.declared.ontology.Inclusion.TheVariants as inclusion
 use Rattle.dl_syntax.specs.declared.ontology.Clash.{Clash}
 use Rattle.dl_syntax.specs.declared.ontology.Clash.TheVariants as clash
-use Rattle.dl_syntax.specs.Ontology.{Declared, names_of, with_name, with_inclusion, most_names}
+use Rattle.dl_syntax.specs.Ontology.{Declared, names_of, with_name, with_inclusion, with_clash, most_names, most_inclusions, most_clashes}
 use Rattle.ontology_reader.specs.declared.OntologyKind.{OntologyKind}
 use Rattle.ontology_reader.specs.declared.OntologyKind.TheVariants.{BadLine, NameTwice, Unknown, WrongKind, TooMany}
 use Rattle.ontology_reader.specs.Sayings.{RoleTerm, BasicTerm, concept, existing, Saying, nothing, declares, includes, includes_qualified, includes_roles, parts, parts_roles, has_no_form, line_says}
@@ -20,14 +20,7 @@ abbrev pub number_of : Kind → Declared → List ℕ → Option ℕ
 number_of kind o text = position (λ known. bytes_eq text known) (names_of kind o)
 
 abbrev pub is_declared : Declared → List ℕ → Bool
-is_declared o text = is_some (number_of Concept o text) || is_some (number_of Role o text) || is_some (number_of Individual o text)
-
--- an ontology has at most so many inclusions and so many clashes
-abbrev pub most_inclusions : ℕ
-most_inclusions = 16384
-
-abbrev pub most_clashes : ℕ
-most_clashes = 4096
+is_declared o text = is_some (number_of Concept o text) || (is_some (number_of Role o text) || is_some (number_of Individual o text))
 
 infixl 10 ◌>>=◌
 abbrev pub ◌>>=◌ : {A B : Type 0} → Result A OntologyKind → (A → Result B OntologyKind) → Result B OntologyKind
@@ -68,7 +61,7 @@ abbrev pub included : Declared → Inclusion → Result Declared OntologyKind
 included o i = if_fewer (length o.inclusions) most_inclusions (with_inclusion i o)
 
 abbrev pub parted : Declared → Clash → Result Declared OntologyKind
-parted o m = if_fewer (length o.clashes) most_clashes (record o { clashes = o.clashes ++ m ∷ [] })
+parted o m = if_fewer (length o.clashes) most_clashes (with_clash m o)
 
 unfoldable pub added : Declared → Saying → Result Declared OntologyKind
 added o nothing = Ok o

@@ -1,4 +1,5 @@
 pub mod Sayings
 pub mod Views
 pub mod Adding
+pub mod Answers
 pub mod Texts

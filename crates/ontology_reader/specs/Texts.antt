@@ -28,8 +28,12 @@ most_bytes = 4194304
 unfoldable pub text_says : List ℕ → Result Declared FaultAt
 text_says text = if nat_lt most_bytes (length text) then Err (0, TooLong) else lines_added 0 nothing_declared (lines_of text)
 
+-- the answer is what is said, unless memory ran out
+abbrev pub Tells : Result Declared OntologyFault → Result Declared FaultAt → Type 0
+Tells (Ok o) said = said ≡ Ok o
+Tells (Err (fault.Bad line kind)) said = said ≡ Err (line, kind)
+Tells (Err fault.Memory) said = Unit {0}
+
 -- the answer is what the text says, or its first fault, unless memory ran out
 abbrev pub Reads : Result Declared OntologyFault → List ℕ → Type 0
-Reads (Ok o) text = text_says text ≡ Ok o
-Reads (Err (fault.Bad line kind)) text = text_says text ≡ Err (line, kind)
-Reads (Err fault.Memory) text = Unit {0}
+Reads answer text = Tells answer (text_says text)

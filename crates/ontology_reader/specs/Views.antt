@@ -1,5 +1,4 @@
 -- Words and what they say, without where they lie in memory.
-use Rattle.std.specs.Prelude.{List, ℕ}
 use Rattle.ontology_reader.specs.declared.words.Word.TheVariants as word
 use Rattle.ontology_reader.specs.declared.words.Word as words
 use Rattle.ontology_reader.specs.declared.sayings.RoleTerm as roles

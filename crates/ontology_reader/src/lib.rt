@@ -1,13 +1,12 @@
 //! The text of an ontology.
 #![tactic(auto)]
 
-ghost use Rattle.ontology_reader.specs.Texts.{Reads};
-
+mod adding;
 mod sayings;
+mod texts;
 mod words;
 
-use dl_syntax::Ontology;
-use std::alloc::Global;
+pub use texts::read_ontology;
 
 /// What is at fault in a text.
 #[derive(Clone, Copy, PartialEq, Eq, Debug)]
@@ -33,13 +32,4 @@ pub enum OntologyFault {
     Bad { line: u64, kind: OntologyKind },
     /// There is no memory.
     Memory,
-}
-
-/// The ontology of a text, or the first fault.
-pub fn read_ontology(alloc: Global, bytes: &[u8]) -> Result<Ontology, OntologyFault>
-    ensures { Reads result bytes.now }
-{
-    let _ = alloc;
-    let _ = bytes;
-    Err(OntologyFault::Memory)
 }

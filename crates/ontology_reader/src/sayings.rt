@@ -141,11 +141,20 @@ fn line_form<'a>(word: &'a [u8], rest: &[Word<'a>]) -> Saying<'a>
     } else if word == b"sub".as_slice() {
         inclusion(rest)
     } else if word == b"subrole".as_slice() {
-        two_roles(rest).map_or(Saying::HasNoForm, |(left, right)| Saying::IncludesRoles(left, right))
+        two_roles(rest).map_or(
+            Saying::HasNoForm,
+            |(left, right)| Saying::IncludesRoles(left, right),
+        )
     } else if word == b"disjoint".as_slice() {
-        two_basics(rest).map_or(Saying::HasNoForm, |(left, right)| Saying::Parts(left, right))
+        two_basics(rest).map_or(
+            Saying::HasNoForm,
+            |(left, right)| Saying::Parts(left, right),
+        )
     } else if word == b"disjointrole".as_slice() {
-        two_roles(rest).map_or(Saying::HasNoForm, |(left, right)| Saying::PartsRoles(left, right))
+        two_roles(rest).map_or(
+            Saying::HasNoForm,
+            |(left, right)| Saying::PartsRoles(left, right),
+        )
     } else {
         Saying::HasNoForm
     }

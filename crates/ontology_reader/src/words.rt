@@ -34,7 +34,10 @@ fn is_name(kind: TokenKind) -> bool
 }
 
 /// The words of a line, and `None` where a token is no name or a byte is at fault.
-pub(crate) fn words_in<'a>(alloc: Global, line: &'a [u8]) -> Result<Option<Vec<Word<'a>>>, AllocError>
+pub(crate) fn words_in<'a>(
+    alloc: Global,
+    line: &'a [u8],
+) -> Result<Option<Vec<Word<'a>>>, AllocError>
     ensures { IfOk result (λ found. option_map (λ words. map word_seen words.items) found ≡ words_read (lexed 0 0 line.now)) }
 {
     let mut words = Vec::new(alloc);

@@ -4,10 +4,14 @@
 ghost use Rattle.std.specs.Prelude.{IfOk, Ok, Err, ◌≡◌, ◌+◌, ◌-◌, ◌≤◌, ◌<◌, ◌||◌, ◌&&◌, length, drop, take, map};
 ghost use Rattle.std.specs.List.{prefix_len, All};
 ghost use Rattle.text_scan.specs.declared.ScanFault.TheVariants.{Memory};
-ghost use Rattle.text_scan.specs.Bytes.{is_letter, is_name_byte, is_comment_byte};
+ghost use Rattle.text_scan.specs.Bytes.{is_letter, is_name_byte};
 ghost use Rattle.text_scan.specs.Lexing.{front_piece, named, variable, mark, LiesWithin, Scans, AreSlices, IsNext, lexeme, lexed};
 ghost use Rattle.text_scan.specs.Spelling.{IsSpelled};
 
+mod lines;
+
+pub use lines::line_at;
+use lines::line_end;
 use std::alloc::{AllocError, Global};
 
 #[derive(Clone, Copy, Debug, PartialEq, Eq)]
@@ -86,20 +90,6 @@ fn name_end(text: &[u8], from: usize) -> usize
     end
 }
 
-/// Where the comment that goes on at `from` ends.
-#[inline]
-fn comment_end(text: &[u8], from: usize) -> usize
-    requires { from ≤ length text.now }
-    ensures end { result ≡ from + prefix_len is_comment_byte (drop from text.now) }
-    ensures within { result ≤ length text.now }
-{
-    let mut end = from;
-    while end < text.len() && text[end] != b'\n' {
-        end += 1;
-    }
-    end
-}
-
 /// The name that goes on at `from`, after so many bytes of its token.
 #[inline]
 fn named_at(text: &[u8], kind: TokenKind, before: usize, from: usize) -> Piece
@@ -160,7 +150,7 @@ fn piece_at(text: &[u8], place: usize) -> Piece
     match byte {
         b'a'..=b'z' | b'A'..=b'Z' | b'_' => named_at(text, TokenKind::Name, 1, place + 1),
         b' ' | b'\t' | b'\r' | b'\n' => Piece::Gap(1),
-        b'#' => Piece::Gap(comment_end(text, place + 1) - place),
+        b'#' => Piece::Gap(line_end(text, place + 1) - place),
         b'?' => variable_at(text, place + 1),
         _ => mark_of(byte),
     }

@@ -1,4 +1,4 @@
-use Rattle.std.proofs.Common.{◌≡◌, ℕ, ◌++◌, ◌∷◌, [], List, Option, map, refl, sym, ap, ◌∙◌, arith, rules}
+use Rattle.std.proofs.Common.{◌≡◌, ◌++◌, ◌∷◌, [], List, map, sym, ap, ◌∙◌, arith, rules}
 use Rattle.std.proofs.lemmas.List.{map_push, append-nil}
 use Rattle.std.specs.Prelude.{Some}
 use Rattle.text_scan.specs.Lexing.{Lexed, lexeme, lexed_from, behind}
@@ -12,7 +12,7 @@ returns-then-not-is_name c =
     let line = c.args.line.now in
     let token = c.in-Token.token in
     sym (ap (behind_words (map word_seen c.loop-token.words.items))
-          (ap words_read c.in-Token.ensures.0 ∙ no_word (lexeme token) (lexed_from line (behind token)) (search rules)))
+    (ap words_read c.in-Token.ensures.0 ∙ no_word (lexeme token) (lexed_from line (behind token)) (search rules)))
     ∙ c.loop-token.invariant.rest
 
 pub loop-token-preserved : goal.loop-token-preserved
@@ -25,10 +25,10 @@ loop-token-preserved c =
     record {
       within = omega (arith, c.in-Token.ensures.2);
       rest =
-        ap (λ (words : List Word). behind_words words (words_read (lexed_from line (behind token)))) pushed
-        ∙ sym (word_goes_on front (lexeme token) (lexed_from line (behind token)) (search rules))
-        ∙ ap (λ (read : Lexed). behind_words front (words_read read)) (sym c.in-Token.ensures.0)
-        ∙ c.loop-token.invariant.rest;
+          ap (λ (words : List Word). behind_words words (words_read (lexed_from line (behind token)))) pushed
+          ∙ sym (word_goes_on front (lexeme token) (lexed_from line (behind token)) (search rules))
+          ∙ ap (λ (read : Lexed). behind_words front (words_read read)) (sym c.in-Token.ensures.0)
+          ∙ c.loop-token.invariant.rest;
     }
 
 pub returns-in-End : goal.returns-in-End
