@@ -1,0 +1,5 @@
+use Rattle.antichains.proofs.Chains.{IsMonotone-holds}
+use Rattle.antichains.proofs.laws.monotone_holds.Goals as goal
+
+pub returns : goal.returns
+returns c = IsMonotone-holds

@@ -1,0 +1,10 @@
+//! Monotone functions of eight variables, each kept as its minimal sets.
+#![tactic(auto)]
+
+mod chain;
+mod family;
+pub mod laws;
+#[cfg(test)]
+mod tests;
+
+pub use chain::{Chain, and, from_sets, holds, or, substitute};

@@ -1,0 +1,12 @@
+//! A store of chains, each kept once.
+#![tactic(auto)]
+
+pub mod laws;
+mod link;
+mod pair;
+mod store;
+#[cfg(test)]
+mod tests;
+
+pub use link::Link;
+pub use store::Store;
