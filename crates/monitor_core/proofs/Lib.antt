@@ -1,0 +1,2 @@
+mod InstanceRows
+mod Accepting

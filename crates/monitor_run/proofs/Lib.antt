@@ -1,0 +1,9 @@
+mod Rendering
+mod ToldLaws
+mod Sayings
+mod ReplyLaws
+mod Serving
+mod Stopping
+mod FirstQueries
+mod Texts
+mod RunLaws

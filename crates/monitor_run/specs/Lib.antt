@@ -1,0 +1,11 @@
+pub mod Outcome
+pub mod Told
+pub mod Report
+pub mod Replies
+pub mod Writing
+pub mod Watching
+pub mod Ends
+pub mod Serving
+pub mod FirstQuery
+pub mod Opening
+pub mod Running

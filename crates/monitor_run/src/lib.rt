@@ -1,0 +1,17 @@
+//! The top call: it watches a stream and writes a report.
+#![tactic(auto)]
+
+mod command;
+mod ending;
+mod error_line;
+mod first_query;
+mod opening;
+mod reply;
+mod running;
+mod telling;
+mod words;
+mod writing;
+
+pub use command::run;
+pub use ending::Status;
+pub use running::watch;

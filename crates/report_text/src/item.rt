@@ -1,0 +1,37 @@
+use dl_syntax::{Name, Row};
+
+/// Why a line of the stream is refused.
+#[derive(Debug, Drop)]
+pub enum Cause {
+    /// It has more than 4,194,304 bytes.
+    TooLong,
+    Malformed,
+    /// A predicate that is declared as nothing.
+    Unknown(Name),
+    /// A predicate that isn't a concept with one argument or a role with two.
+    WrongKind(Name),
+    /// An argument that is no individual.
+    Undeclared(Name),
+    /// More than 65,536 facts are written.
+    TooManyFacts,
+    /// The least clash that the snapshot meets, counted from 1.
+    Contradiction(u32),
+}
+
+/// One thing that a report tells.
+#[derive(Debug, Drop)]
+pub enum Item {
+    /// The line with this number was accepted, as the snapshot with this number in the whole history.
+    Accepted { line: u64, number: u64 },
+    /// The row answers the query with this place after that snapshot.
+    Answer {
+        line: u64,
+        number: u64,
+        query: u16,
+        row: Row,
+    },
+    /// The line was refused.
+    Refused { line: u64, cause: Cause },
+    /// How many snapshots the history has, and how many lines were refused.
+    End { accepted: u64, refused: u64 },
+}

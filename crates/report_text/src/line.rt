@@ -1,0 +1,208 @@
+// The bytes of a report's lines, appended to a buffer that is used again.
+ghost use Rattle.std.specs.Prelude.{◌≡◌, ◌++◌, ◌<◌, All, [], length, OnOk, OnErr, IfOk, take, vec_len};
+ghost use Rattle.report_text.specs.Lines.{IsNamed, AreNamed, HasNames, cause_text, row_text, answer_text, answers_text, two_text, refused_text, line_text, line_in, heading_text};
+
+use crate::item::{Cause, Item};
+use crate::numbers::append_number;
+use dl_syntax::{IndId, Kind, Ontology, Tuples};
+use std::alloc::{AllocError, Global};
+use tcq_syntax::Query;
+
+/// How the lines of a report are written.
+#[derive(Clone, Copy, PartialEq, Eq, Debug)]
+pub enum LineForm {
+    Text,
+}
+
+/// What stands before the first line.
+pub fn heading(form: LineForm) -> &'static [u8]
+    ensures { result.now ≡ heading_text form }
+{
+    match form {
+        LineForm::Text => b"",
+    }
+}
+
+// Appends a cause. What stood before stays, also on an error.
+fn append_cause(out: &mut Vec<u8>, cause: &Cause) -> Result<(), AllocError>
+    ensures ok { OnOk result (out.new.items ≡ out.old.items ++ cause_text cause.now) }
+    ensures kept { take (vec_len out.old) out.new.items ≡ out.old.items }
+{
+    match cause {
+        Cause::TooLong => out.extend_from_slice(b"too-long"),
+        Cause::Malformed => out.extend_from_slice(b"malformed"),
+        Cause::Unknown(name) => append_named(out, b"unknown ", name.bytes()),
+        Cause::WrongKind(name) => append_named(out, b"wrong-kind ", name.bytes()),
+        Cause::Undeclared(name) => append_named(out, b"undeclared ", name.bytes()),
+        Cause::TooManyFacts => out.extend_from_slice(b"too-many-facts"),
+        Cause::Contradiction(clash) => {
+            out.extend_from_slice(b"contradiction ")?;
+            append_number(out, *clash as u64)
+        }
+    }
+}
+
+fn append_named(out: &mut Vec<u8>, word: &[u8], name: &[u8]) -> Result<(), AllocError>
+    ensures ok { OnOk result (out.new.items ≡ out.old.items ++ (word.now ++ name.now)) }
+    ensures kept { take (vec_len out.old) out.new.items ≡ out.old.items }
+{
+    out.extend_from_slice(word)?;
+    out.extend_from_slice(name)
+}
+
+// Appends the names of a row, each after a space.
+fn append_row(out: &mut Vec<u8>, ontology: &Ontology, row: &[IndId]) -> Result<(), AllocError>
+    requires { IsNamed ontology.now row.now }
+    ensures ok { OnOk result (out.new.items ≡ out.old.items ++ row_text ontology.now.individuals row.now) }
+    ensures kept { take (vec_len out.old) out.new.items ≡ out.old.items }
+{
+    for individual in row {
+        out.push(b' ')?;
+        out.extend_from_slice(ontology.name(Kind::Individual, individual.0))?;
+    }
+    Ok(())
+}
+
+// Appends one answer. What stood before stays, also on an error.
+fn append_answer(
+    out: &mut Vec<u8>,
+    query: &[u8],
+    ontology: &Ontology,
+    row: &[IndId],
+) -> Result<(), AllocError>
+    requires { IsNamed ontology.now row.now }
+    ensures ok { OnOk result (out.new.items ≡ out.old.items ++ answer_text ontology.now.individuals query.now row.now) }
+    ensures kept { take (vec_len out.old) out.new.items ≡ out.old.items }
+{
+    out.extend_from_slice(b"answer ")?;
+    out.extend_from_slice(query)?;
+    append_row(out, ontology, row)?;
+    out.extend_from_slice(b"\n")
+}
+
+// Appends the answers of one query. What stood before stays, also on an error.
+fn try_append_answers(
+    out: &mut Vec<u8>,
+    query: &[u8],
+    ontology: &Ontology,
+    rows: &Tuples,
+) -> Result<(), AllocError>
+    requires { AreNamed ontology.now rows.now.rows }
+    ensures ok { OnOk result (out.new.items ≡ out.old.items ++ answers_text ontology.now.individuals query.now rows.now.rows) }
+    ensures kept { take (vec_len out.old) out.new.items ≡ out.old.items }
+{
+    for place in 0..rows.len() {
+        append_answer(out, query, ontology, rows.row(place))?;
+    }
+    Ok(())
+}
+
+/// Appends a line for each row of a query's answers. The buffer is as before where memory runs out.
+pub fn append_answers(
+    out: &mut Vec<u8>,
+    query: &Query,
+    ontology: &Ontology,
+    rows: &Tuples,
+) -> Result<(), AllocError>
+    requires { AreNamed ontology.now rows.now.rows }
+    ensures ok { OnOk result (out.new.items ≡ out.old.items ++ answers_text ontology.now.individuals query.now.name rows.now.rows) }
+    ensures err { OnErr result (out.new.items ≡ out.old.items) }
+{
+    let start = out.len();
+    let done = try_append_answers(out, query.name().bytes(), ontology, rows);
+    if done.is_err() {
+        out.truncate(start);
+    }
+    done
+}
+
+// Appends a word and two numbers after words.
+fn append_two(
+    out: &mut Vec<u8>,
+    before: &[u8],
+    first: u64,
+    between: &[u8],
+    second: u64,
+) -> Result<(), AllocError>
+    ensures ok { OnOk result (out.new.items ≡ out.old.items ++ two_text before.now first between.now second) }
+    ensures kept { take (vec_len out.old) out.new.items ≡ out.old.items }
+{
+    out.extend_from_slice(before)?;
+    append_number(out, first)?;
+    out.extend_from_slice(between)?;
+    append_number(out, second)?;
+    out.extend_from_slice(b"\n")
+}
+
+// Appends the line of a refusal.
+fn append_refused(out: &mut Vec<u8>, line: u64, cause: &Cause) -> Result<(), AllocError>
+    ensures ok { OnOk result (out.new.items ≡ out.old.items ++ refused_text line cause.now) }
+    ensures kept { take (vec_len out.old) out.new.items ≡ out.old.items }
+{
+    out.extend_from_slice(b"line ")?;
+    append_number(out, line)?;
+    out.extend_from_slice(b" refused ")?;
+    append_cause(out, cause)?;
+    out.extend_from_slice(b"\n")
+}
+
+// Appends the line of an item. What stood before stays, also on an error.
+fn try_append_line(
+    out: &mut Vec<u8>,
+    item: &Item,
+    ontology: &Ontology,
+    queries: &[Query],
+) -> Result<(), AllocError>
+    requires { HasNames ontology.now queries.now item.now }
+    ensures ok { OnOk result (out.new.items ≡ out.old.items ++ line_text ontology.now queries.now item.now) }
+    ensures kept { take (vec_len out.old) out.new.items ≡ out.old.items }
+{
+    match item {
+        Item::Accepted { line, number } => append_two(out, b"line ", *line, b" accepted ", *number),
+        Item::Answer { query, row, .. } => {
+            append_answer(out, queries[*query as usize].name().bytes(), ontology, row.places())
+        }
+        Item::Refused { line, cause } => append_refused(out, *line, cause),
+        Item::End { accepted, refused } => {
+            append_two(out, b"end accepted ", *accepted, b" refused ", *refused)
+        }
+    }
+}
+
+/// Appends the line of an item in this form. The buffer is as before where memory runs out.
+pub fn append_line(
+    out: &mut Vec<u8>,
+    item: &Item,
+    form: LineForm,
+    ontology: &Ontology,
+    queries: &[Query],
+) -> Result<(), AllocError>
+    requires { HasNames ontology.now queries.now item.now }
+    ensures ok { OnOk result (out.new.items ≡ out.old.items ++ line_in form ontology.now queries.now item.now) }
+    ensures err { OnErr result (out.new.items ≡ out.old.items) }
+{
+    let start = out.len();
+    let done = match form {
+        LineForm::Text => try_append_line(out, item, ontology, queries),
+    };
+    if done.is_err() {
+        out.truncate(start);
+    }
+    done
+}
+
+/// The exact bytes of the line of an item.
+pub fn render_line(
+    alloc: Global,
+    item: &Item,
+    form: LineForm,
+    ontology: &Ontology,
+    queries: &[Query],
+) -> Result<Vec<u8>, AllocError>
+    requires { HasNames ontology.now queries.now item.now }
+    ensures { IfOk result (λ line. line.items ≡ line_in form ontology.now queries.now item.now) }
+{
+    let mut line = Vec::new(alloc);
+    append_line(&mut line, item, form, ontology, queries)?;
+    Ok(line)
+}
