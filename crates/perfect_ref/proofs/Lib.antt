@@ -1,0 +1,5 @@
+pub mod Gained
+pub mod Indexed
+pub mod Answering
+pub mod Collected
+pub mod Reached

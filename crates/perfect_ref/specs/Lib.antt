@@ -1,0 +1,4 @@
+pub mod Rules
+pub mod Plain
+pub mod Found
+pub mod Laws

@@ -1,0 +1,43 @@
+-- Answers over a saturated snapshot.
+use Rattle.std.specs.Prelude.{◌≡◌, ℕ, List, ◌↔◌, map}
+use Rattle.std.specs.List.{All, Contains}
+use Rattle.dl_syntax.specs.declared.names.IndId.{IndId}
+use Rattle.dl_syntax.specs.declared.facts.Element.TheVariants.{Ind as ind_element}
+use Rattle.dl_syntax.specs.declared.facts.Fact.{Fact}
+use Rattle.dl_syntax.specs.declared.ontology.Basic.TheVariants as basic
+use Rattle.dl_syntax.specs.declared.ontology.Inclusion.{Inclusion}
+use Rattle.dl_syntax.specs.declared.ontology.Inclusion.TheVariants as inclusion
+use Rattle.dl_syntax.specs.declared.queries.Cq.{Cq}
+use Rattle.dl_syntax.specs.Chase.{Run}
+use Rattle.dl_syntax.specs.Match.{Certain}
+use Rattle.query_unify.specs.Normal.{normalise}
+use Rattle.query_unify.specs.Reach.{Replaces, Reach}
+use Rattle.dl_syntax.specs.Facts.{HasNoNull}
+use Rattle.dl_syntax.specs.Encode.{IsUnqualified}
+use Rattle.query_unify.specs.Laws.{Gives}
+
+-- some run holds the fact
+abbrev pub HoldsInRun : List Inclusion → List Fact → Fact → Type 0
+HoldsInRun inclusions snapshot f = (run : List Fact) × Run inclusions snapshot run × Contains run f
+
+-- exactly the facts over individuals that some run holds
+pub record IsSaturation (inclusions : List Inclusion) (snapshot facts : List Fact) : Type 0 where
+  pub sound : (f : Fact) → Contains facts f → HasNoNull f × HoldsInRun inclusions snapshot f
+  pub complete : (f : Fact) → HasNoNull f → HoldsInRun inclusions snapshot f → Contains facts f
+
+-- the inclusion makes nulls
+abbrev pub MakesNulls : Inclusion → Type 0
+MakesNulls (inclusion.Concepts b (basic.Concept c)) = ⊥
+MakesNulls (inclusion.Concepts b (basic.Some r)) = Unit {0}
+MakesNulls (inclusion.Roles r s) = ⊥
+MakesNulls (inclusion.Qualified b r c) = Unit {0}
+
+-- the normalised query, or what a replacement by an inclusion that makes nulls makes of a reachable one
+pub data IsCore (inclusions : List Inclusion) (q member : Cq) : Type 0 where
+  begin : member ≡ normalise q → IsCore inclusions q member
+  made : (before : Cq) (i : Inclusion) (place : ℕ) → Reach inclusions q before → Contains inclusions i → MakesNulls i → Replaces i place before member → IsCore inclusions q member
+
+-- the certain answers are what the core gives in the saturated facts
+abbrev pub CoreIsExact : Type 0
+CoreIsExact = (inclusions : List Inclusion) (snapshot facts : List Fact) (q : Cq) (row : List IndId) → All IsUnqualified inclusions → All HasNoNull snapshot → IsSaturation inclusions snapshot facts →
+    Certain inclusions q snapshot row ↔ ((member : Cq) × IsCore inclusions q member × Gives member facts (map ind_element row))
