@@ -33,3 +33,6 @@ pub enum OntologyFault {
     /// There is no memory.
     Memory,
 }
+
+#[cfg(test)]
+mod tests;

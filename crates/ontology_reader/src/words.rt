@@ -48,7 +48,7 @@ pub(crate) fn words_in<'a>(
                 if !is_name(token.kind) {
                     return Ok(None);
                 }
-                place = token.start + token.text.len();
+                place = token.end();
                 words.push(word_of(token.text))?;
             }
             Next::Fault(_) => return Ok(None),

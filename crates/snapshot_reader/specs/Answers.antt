@@ -1,7 +1,5 @@
 -- How an answer tells what a line says.
-use Rattle.std.specs.Prelude.{◌≡◌, ℕ, List, Result, Ok, Err}
-use Rattle.dl_syntax.specs.Ontology.{Declared}
-use Rattle.snapshot_reader.specs.declared.Form.{Form}
+use Rattle.std.specs.Prelude.{◌≡◌, Result, Ok, Err}
 use Rattle.snapshot_reader.specs.declared.Reading.{Reading}
 use Rattle.snapshot_reader.specs.declared.Reading.TheVariants.{Skip, Facts}
 use Rattle.snapshot_reader.specs.declared.SnapFault.{SnapFault}
@@ -11,7 +9,7 @@ use Rattle.snapshot_reader.specs.Said.{Said, nothing, refused, says, is_malforme
 -- the answer is what is said, unless memory ran out
 abbrev pub Tells : Result Reading SnapFault → Said → Type 0
 Tells (Ok Skip) what = what ≡ nothing
-Tells (Ok (Facts snapshot)) what = what ≡ says snapshot.facts
+Tells (Ok (Facts snapshot)) what = what ≡ says snapshot
 Tells (Err fault.Malformed) what = what ≡ refused is_malformed
 Tells (Err (fault.Unknown name)) what = what ≡ refused (unknown name)
 Tells (Err (fault.WrongKind name)) what = what ≡ refused (wrong_kind name)

@@ -1,3 +1,5 @@
 pub mod Written
 pub mod Said
 pub mod Answers
+pub mod Cursor
+pub mod Hearing

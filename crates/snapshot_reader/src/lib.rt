@@ -1,11 +1,15 @@
 //! The lines of a stream.
 #![tactic(auto)]
 
-ghost use Rattle.snapshot_reader.specs.Said.{said};
-ghost use Rattle.snapshot_reader.specs.Answers.{Tells};
+ghost use Rattle.std.specs.Prelude.{◌≡◌};
 
-use dl_syntax::{Name, Ontology, Snapshot};
-use std::alloc::Global;
+mod facts;
+mod hearing;
+mod lines;
+mod names;
+
+use dl_syntax::{Memory, Name, Snapshot};
+pub use lines::read_snapshot;
 
 /// How a line is written.
 #[derive(Clone, Copy, PartialEq, Eq, Debug)]
@@ -41,18 +45,15 @@ pub enum SnapFault {
     Memory,
 }
 
-/// What a line says by the names of the ontology.
-pub fn read_snapshot(
-    alloc: Global,
-    line: &[u8],
-    form: Form,
-    ontology: &Ontology,
-) -> Result<Reading, SnapFault>
-    ensures { Tells result (said ontology.now form line.now) }
-{
-    let _ = alloc;
-    let _ = line;
-    let _ = form;
-    let _ = ontology;
-    Err(SnapFault::Memory)
+impl From<Memory> for SnapFault {
+    ghost use Rattle.snapshot_reader.specs.declared.SnapFault.TheVariants.{Memory as NoMemory};
+
+    ghost from_gives = { λ _ e. e ≡ NoMemory };
+
+    fn from(_refused: Memory) -> SnapFault {
+        SnapFault::Memory
+    }
 }
+
+#[cfg(test)]
+mod tests;

@@ -1,11 +1,11 @@
 //! Tokens of a text of bytes.
 #![tactic(auto)]
 
-ghost use Rattle.std.specs.Prelude.{IfOk, Ok, Err, ◌≡◌, ◌+◌, ◌-◌, ◌≤◌, ◌<◌, ◌||◌, ◌&&◌, length, drop, take, map};
+ghost use Rattle.std.specs.Prelude.{IfOk, Ok, Err, ◌≡◌, ◌+◌, ◌-◌, ◌≤◌, ◌<◌, ◌^◌, ◌||◌, ◌&&◌, length, drop, take, map};
 ghost use Rattle.std.specs.List.{prefix_len, All};
 ghost use Rattle.text_scan.specs.declared.ScanFault.TheVariants.{Memory};
 ghost use Rattle.text_scan.specs.Bytes.{is_letter, is_name_byte};
-ghost use Rattle.text_scan.specs.Lexing.{front_piece, named, variable, mark, LiesWithin, Scans, AreSlices, IsNext, lexeme, lexed};
+ghost use Rattle.text_scan.specs.Lexing.{front_piece, named, variable, mark, LiesWithin, Scans, AreSlices, IsNext, lexeme, lexed, behind};
 ghost use Rattle.text_scan.specs.Spelling.{IsSpelled};
 
 mod lines;
@@ -35,6 +35,17 @@ pub struct Token<'a> {
     pub kind: TokenKind,
     pub text: &'a [u8],
     pub start: usize,
+}
+
+impl Token<'_> {
+    /// The place behind the token.
+    #[inline]
+    pub fn end(&self) -> usize
+        requires { behind self.now < 2 ^ 64 }
+        ensures { result ≡ behind self.now }
+    {
+        self.start + self.text.len()
+    }
 }
 
 #[derive(Clone, Copy, Debug, PartialEq, Eq)]
@@ -213,7 +224,7 @@ pub fn scan_front<'a>(alloc: Global, text: &'a [u8]) -> Result<Front<'a>, AllocE
     loop {
         match next_token(text, place) {
             Next::Token(token) => {
-                place = token.start + token.text.len();
+                place = token.end();
                 tokens.push(token)?;
             }
             Next::Fault(fault) => {
@@ -242,3 +253,6 @@ pub fn scan<'a>(alloc: Global, text: &'a [u8]) -> Result<Vec<Token<'a>>, ScanFau
         Some(place) => Err(ScanFault::Bad { place }),
     }
 }
+
+#[cfg(test)]
+mod tests;

@@ -1,0 +1,78 @@
+ghost use Rattle.std.specs.Prelude.{◌≡◌, ◌≤◌, length};
+ghost use Rattle.std.specs.Option.{option_map_or};
+ghost use Rattle.dl_syntax.specs.Ontology.{Declared};
+ghost use Rattle.snapshot_reader.specs.Written.{writes, malformed, symbols_write};
+ghost use Rattle.snapshot_reader.specs.Said.{line_says, said};
+ghost use Rattle.snapshot_reader.specs.Answers.{Tells};
+ghost use Rattle.snapshot_reader.specs.Cursor.{symbols_from, facts_from, IsTokenOf};
+
+use crate::facts::{NextFact, next_fact, token_of};
+use crate::hearing::Heard;
+use crate::{Form, Reading, SnapFault};
+use dl_syntax::Ontology;
+use std::alloc::Global;
+use text_scan::{Next, TokenKind, next_token};
+
+/// What the facts from a place on say.
+fn read_facts(
+    alloc: Global,
+    line: &[u8],
+    from: usize,
+    ontology: &Ontology,
+) -> Result<Reading, SnapFault>
+    requires { from ≤ length line.now }
+    ensures { Tells result (line_says ontology.now (option_map_or writes (facts_from line.now from) malformed)) }
+{
+    let mut heard = Heard::new(alloc);
+    let mut place = from;
+    loop {
+        match next_fact(line, place) {
+            NextFact::Fact(written, end) => {
+                heard.hear(ontology, &written)?;
+                place = end;
+            }
+            NextFact::End => return heard.reading(alloc),
+            NextFact::Malformed => return Err(SnapFault::Malformed),
+        }
+    }
+}
+
+/// What a line says that doesn't begin with a name.
+fn read_no_name(line: &[u8]) -> Result<Reading, SnapFault>
+    requires { IsTokenOf TokenKind.Name line.now 0 None }
+    ensures { (o : Declared) → Tells result (line_says o (symbols_write (symbols_from line.now 0))) }
+{
+    match next_token(line, 0) {
+        Next::Token(_) => Err(SnapFault::Malformed),
+        Next::Fault(_) => Err(SnapFault::Malformed),
+        Next::End => Ok(Reading::Skip),
+    }
+}
+
+/// What a line in text form says.
+fn read_text(alloc: Global, line: &[u8], ontology: &Ontology) -> Result<Reading, SnapFault>
+    ensures { Tells result (line_says ontology.now (symbols_write (symbols_from line.now 0))) }
+{
+    let Some((word, end)) = token_of(line, 0, TokenKind::Name) else {
+        return read_no_name(line);
+    };
+    if word != b"snap".as_slice() {
+        return Err(SnapFault::Malformed);
+    }
+    read_facts(alloc, line, end, ontology)
+}
+
+/// What a line says by the names of the ontology.
+#[tactic(auto, unfolding(crate::specs::Said::said, crate::specs::Written::line_writes))]
+pub fn read_snapshot(
+    alloc: Global,
+    line: &[u8],
+    form: Form,
+    ontology: &Ontology,
+) -> Result<Reading, SnapFault>
+    ensures { Tells result (said ontology.now form line.now) }
+{
+    match form {
+        Form::Text => read_text(alloc, line, ontology),
+    }
+}
