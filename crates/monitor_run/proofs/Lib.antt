@@ -7,3 +7,4 @@ mod Stopping
 mod FirstQueries
 mod Texts
 mod RunLaws
+mod Completing

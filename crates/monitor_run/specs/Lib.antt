@@ -9,3 +9,4 @@ pub mod Serving
 pub mod FirstQuery
 pub mod Opening
 pub mod Running
+pub mod Laws

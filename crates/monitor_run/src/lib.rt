@@ -5,6 +5,7 @@ mod command;
 mod ending;
 mod error_line;
 mod first_query;
+pub mod laws;
 mod opening;
 mod reply;
 mod running;
@@ -14,4 +15,3 @@ mod writing;
 
 pub use command::run;
 pub use ending::Status;
-pub use running::watch;

@@ -22,7 +22,10 @@ pub enum Cause {
 #[derive(Debug, Drop)]
 pub enum Item {
     /// The line with this number was accepted, as the snapshot with this number in the whole history.
-    Accepted { line: u64, number: u64 },
+    Accepted {
+        line: u64,
+        number: u64,
+    },
     /// The row answers the query with this place after that snapshot.
     Answer {
         line: u64,
@@ -31,7 +34,13 @@ pub enum Item {
         row: Row,
     },
     /// The line was refused.
-    Refused { line: u64, cause: Cause },
+    Refused {
+        line: u64,
+        cause: Cause,
+    },
     /// How many snapshots the history has, and how many lines were refused.
-    End { accepted: u64, refused: u64 },
+    End {
+        accepted: u64,
+        refused: u64,
+    },
 }

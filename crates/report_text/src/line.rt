@@ -160,7 +160,12 @@ fn try_append_line(
     match item {
         Item::Accepted { line, number } => append_two(out, b"line ", *line, b" accepted ", *number),
         Item::Answer { query, row, .. } => {
-            append_answer(out, queries[*query as usize].name().bytes(), ontology, row.places())
+            append_answer(
+                out,
+                queries[*query as usize].name().bytes(),
+                ontology,
+                row.places(),
+            )
         }
         Item::Refused { line, cause } => append_refused(out, *line, cause),
         Item::End { accepted, refused } => {

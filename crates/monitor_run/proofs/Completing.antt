@@ -1,0 +1,102 @@
+-- Where nothing fails a run is done, but for want of memory.
+use Rattle.std.proofs.Common.{◌≡◌, ℕ, ◌+◌, ◌<◌, ◌≤◌, ◌^◌, inl, inr, Option, None, Some, Ok, Err, List, [], ◌∷◌, ◌++◌, length, refl, sym, ◌∙◌, ap, subst, arith, length-append}
+use Rattle.std.specs.Prelude.{◌⊎◌}
+use Rattle.dl_syntax.specs.Ontology.{Declared}
+use Rattle.tcq_syntax.specs.Tcq.{Tcq}
+use Rattle.edge_io.specs.Held.{Store, Lacks}
+use Rattle.edge_io.specs.Known.{Takes}
+use Rattle.ontology_reader.specs.Texts.{text_says}
+use Rattle.monitor_core.specs.Setting.{IsPlain}
+use Rattle.monitor_run.specs.declared.ending.Status.{Status}
+use Rattle.monitor_run.specs.declared.ending.Status.TheVariants as status
+use Rattle.monitor_run.specs.declared.ending.Ending.{Ending}
+use Rattle.monitor_run.specs.declared.ending.Ending.TheVariants.{Done, Usage, BadOntology, UnbuiltOntology, UnbuiltQueries, ReadFault, WriteFault, Memory, StreamLimit}
+use Rattle.monitor_run.specs.Ends.{status_of}
+use Rattle.monitor_run.specs.FirstQuery.{IsFirstQuery}
+use Rattle.monitor_run.specs.Laws.{IsGood, Completeness}
+use Rattle.monitor_run.specs.Opening.{AreWatch, HasText, SaysOntology}
+use Rattle.monitor_run.specs.Running.{Outside, RunEnds}
+
+-- the words name one file of each kind
+same_names : (words : List (List ℕ)) (o q o' q' : List ℕ) → AreWatch words o q → AreWatch words o' q' → (o' ≡ o) × (q' ≡ q)
+same_names words o q o' q' one other =
+    let same : one.command ∷ o ∷ q ∷ [] ≡ other.command ∷ o' ∷ q' ∷ [] = sym one.words_are ∙ other.words_are in
+    let first : o' ≡ o = cc in
+    let second : q' ≡ q = cc in
+    (first, second)
+
+-- a file has one text
+same_text : (held : Option Store) (files : Store) (name name' text text' : List ℕ) → held ≡ Some files → files name ≡ Some text → name' ≡ name → HasText held name' text' → text' ≡ text
+same_text held files name name' text text' told there same has =
+    let here : HasText (Some files) name text' = subst (λ (n : List ℕ). HasText (Some files) n text') same (subst (λ (h : Option Store). HasText h name' text') told has) in
+    let both : Some text' ≡ Some text = sym here ∙ there in
+    cc
+
+never_lacks : (held : Option Store) (files : Store) (name name' text : List ℕ) → held ≡ Some files → files name ≡ Some text → name' ≡ name → ¬ Lacks held name'
+never_lacks held files name name' text told there same lacks =
+    let here : Lacks (Some files) name = subst (λ (n : List ℕ). Lacks (Some files) n) same (subst (λ (h : Option Store). Lacks h name') told lacks) in
+    let none : Some text ≡ None = sym there ∙ here in
+    cc
+
+taken_within : (before now : Option (List ℕ)) (stream taken : List ℕ) → before ≡ Some stream → Takes before now taken → length taken ≤ length stream
+taken_within before None stream taken told takes = let none : Some stream ≡ None = sym told ∙ takes in cc
+taken_within before (Some left) stream taken told takes =
+    let same : Some stream ≡ Some (taken ++ left) = sym told ∙ takes in
+    let is : stream ≡ taken ++ left = cc in
+    omega (arith, ap length is, length-append taken left)
+
+module _ (words : List (List ℕ)) (before now : Outside) (good : IsGood words before now) where
+  one_ontology : (name text : List ℕ) → name ≡ good.ontology_name → HasText before.held name text → text ≡ good.ontology_text
+  one_ontology name text same has = same_text before.held good.files good.ontology_name name good.ontology_text text good.held good.ontology_there same has
+
+  same_ontology : (name text : List ℕ) (ontology : Declared) → name ≡ good.ontology_name → HasText before.held name text → SaysOntology text ontology → ontology ≡ good.ontology
+  same_ontology name text ontology same has says =
+      let there : SaysOntology good.ontology_text ontology = subst (λ (t : List ℕ). SaysOntology t ontology) (one_ontology name text same has) says in
+      let both : Ok ontology ≡ Ok good.ontology = sym there.says ∙ good.ontology_says.says in
+      cc
+
+  complete : (ending : Ending) → RunEnds ending words before now → (status_of ending ≡ status.Done) ⊎ (status_of ending ≡ status.Memory)
+  complete Done ends = inl refl
+  complete Memory ends = inr refl
+  complete Usage ends = absurd (ends.0 good.ontology_name good.queries_name good.words_are)
+  complete (BadOntology line kind) (o, q, are, refused) =
+      let names = same_names words good.ontology_name good.queries_name o q good.words_are are in
+      let text = one_ontology o refused.refuses.text names.0 refused.refuses.has in
+      let fault = refused.refuses.refused in
+      let both : Err (line, kind) ≡ Ok good.ontology = sym fault ∙ (ap text_says text ∙ good.ontology_says.says) in
+      cc
+  complete UnbuiltOntology (o, q, are, refused) =
+      let names = same_names words good.ontology_name good.queries_name o q good.words_are are in
+      let text = one_ontology o refused.refuses.text names.0 refused.refuses.has in
+      let fault = refused.refuses.refused in
+      let both : Ok fault.0 ≡ Ok good.ontology = sym fault.1 ∙ (ap text_says text ∙ good.ontology_says.says) in
+      let same : good.ontology ≡ fault.0 = cc in
+      absurd (fault.2 (subst IsPlain same good.ontology_says.plain))
+  complete UnbuiltQueries (o, q, are, refused) =
+      let names = same_names words good.ontology_name good.queries_name o q good.words_are are in
+      let both = refused.refuses in
+      let ontology = same_ontology o both.ontology_text both.ontology names.0 both.ontology_has both.ontology_says in
+      let text = same_text before.held good.files good.queries_name q good.queries_text both.text good.held good.queries_there names.1 both.has in
+      absurd (both.refused good.query (subst (λ (d : Declared). IsFirstQuery d both.text good.query) (sym ontology) (subst (λ (t : List ℕ). IsFirstQuery good.ontology t good.query) (sym text) good.query_says)))
+  complete ReadFault (o, q, are, inl refused) =
+      let names = same_names words good.ontology_name good.queries_name o q good.words_are are in
+      elim refused.refuses [
+        | inl rose ↦ absurd (good.no_file_fault rose)
+        | inr lacking ↦ elim lacking [
+          | inl lacks ↦ absurd (never_lacks before.held good.files good.ontology_name o good.ontology_text good.held good.ontology_there names.0 lacks)
+          | inr lacks ↦ absurd (never_lacks before.held good.files good.queries_name q good.queries_text good.held good.queries_there names.1 lacks)
+        ]
+      ]
+  complete ReadFault (o, q, are, inr (rose, watched)) = absurd (good.no_read_fault rose)
+  complete WriteFault (o, q, are, (rose, watched)) = absurd (good.no_write_fault rose)
+  complete StreamLimit (o, q, are, watched) =
+      let taken = watched.watched.taken in
+      let within = taken_within before.left now.left good.stream taken good.left watched.watched.takes in
+      absurd (omega (arith, within, good.short, watched.watched.writes.0))
+
+pub completeness : Completeness
+completeness s words before now eb en fb fn ran good =
+    elim (complete words before now good ran.ending ran.ends) [
+      | inl done ↦ inl (ran.status_is ∙ done)
+      | inr memory ↦ inr (ran.status_is ∙ memory)
+    ]
