@@ -23,9 +23,10 @@ loop-token-preserved c =
     let pushed : map word_seen c.push.new.self.items ≡ front ++ word_of token.text.now ∷ [] =
     rw c.in_ok-push-in-Token.ensures.items (map_push word_seen c.loop-token.words.items c.word_of.result ∙ ap (λ (w : Word). front ++ w ∷ []) c.word_of.ensures) in
     record {
-      within = omega (arith, c.in-Token.ensures.2);
+      within = omega (arith, c.end-place.ensures, c.in-Token.ensures.2);
       rest =
-          ap (λ (words : List Word). behind_words words (words_read (lexed_from line (behind token)))) pushed
+          ap (λ place. behind_words (map word_seen c.push.new.self.items) (words_read (lexed_from line place))) c.end-place.ensures
+          ∙ ap (λ (words : List Word). behind_words words (words_read (lexed_from line (behind token)))) pushed
           ∙ sym (word_goes_on front (lexeme token) (lexed_from line (behind token)) (search rules))
           ∙ ap (λ (read : Lexed). behind_words front (words_read read)) (sym c.in-Token.ensures.0)
           ∙ c.loop-token.invariant.rest;
