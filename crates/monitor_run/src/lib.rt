@@ -10,6 +10,8 @@ mod opening;
 mod reply;
 mod running;
 mod telling;
+#[cfg(test)]
+mod tests;
 mod words;
 mod writing;
 
