@@ -1,0 +1,10 @@
+pub mod NumberLemmas
+pub mod DeclaredLemmas
+pub mod ListMaps
+pub mod BuiltStates
+pub mod WholeTables
+pub mod LeafLemmas
+pub mod HeadLemmas
+pub mod Acts
+pub mod KeepsLemmas
+pub mod ReadingLemmas

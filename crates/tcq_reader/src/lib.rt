@@ -1,0 +1,12 @@
+//! Reads query files: the queries that a text says, or its first fault.
+#![tactic(auto)]
+
+mod builder;
+mod faults;
+mod leaf;
+mod names;
+mod reading;
+mod table;
+
+pub use faults::{QueryFault, QueryKind};
+pub use reading::read_queries;
