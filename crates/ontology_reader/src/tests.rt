@@ -2,7 +2,8 @@ use crate::{OntologyFault, OntologyKind, read_ontology};
 use dl_syntax::{Basic, Clash, ConceptId, Inclusion, Kind, Role, RoleId};
 use std::test::Fail;
 
-const SERVERS: &[u8] = b"concept Server\nconcept Process # runs\nrole runs\r\nindividual s1\n\nsub Server some runs\nsub some inv runs Process\nsub Server some runs Process\nsubrole runs runs\ndisjoint Server Process\ndisjointrole runs inv runs";
+const SERVERS: &[u8] =
+    b"concept Server\nconcept Process # runs\nrole runs\r\nindividual s1\n\nsub Server some runs\nsub some inv runs Process\nsub Server some runs Process\nsubrole runs runs\ndisjoint Server Process\ndisjointrole runs inv runs";
 
 #[test]
 fn reads_what_a_text_says(rt: HostRuntime) -> Result<(), Fail> {
@@ -19,15 +20,32 @@ fn reads_what_a_text_says(rt: HostRuntime) -> Result<(), Fail> {
     };
     let server = Basic::Concept(ConceptId(0));
     let process = Basic::Concept(ConceptId(1));
-    assert_eq!(rt; ontology.name(Kind::Concept, ontology.find(Kind::Concept, b"Process").ok_or("none")?), b"Process".as_slice());
+    assert_eq!(rt;
+        ontology.name(
+            Kind::Concept,
+            ontology.find(Kind::Concept, b"Process").ok_or("none")?
+        ),
+        b"Process".as_slice()
+    );
     assert_eq!(rt; ontology.count(Kind::Individual), 1);
-    assert_eq!(rt; ontology.inclusions(), [
-        Inclusion::Concepts(server, Basic::Some(runs)),
-        Inclusion::Concepts(Basic::Some(inverse), process),
-        Inclusion::Qualified(server, runs, ConceptId(1)),
-        Inclusion::Roles(runs, runs),
-    ].as_slice());
-    assert_eq!(rt; ontology.clashes(), [Clash::Concepts(server, process), Clash::Roles(runs, inverse)].as_slice());
+    assert_eq!(rt;
+        ontology.inclusions(),
+        [
+            Inclusion::Concepts(server, Basic::Some(runs)),
+            Inclusion::Concepts(Basic::Some(inverse), process),
+            Inclusion::Qualified(server, runs, ConceptId(1)),
+            Inclusion::Roles(runs, runs),
+        ]
+        .as_slice()
+    );
+    assert_eq!(rt;
+        ontology.clashes(),
+        [
+            Clash::Concepts(server, process),
+            Clash::Roles(runs, inverse)
+        ]
+        .as_slice()
+    );
     Ok(())
 }
 
@@ -41,9 +59,17 @@ fn names_the_first_fault(rt: HostRuntime) {
         (b"concept A B", 1, OntologyKind::BadLine),
         (b"concept A\n\nrole A", 3, OntologyKind::NameTwice),
         (b"role r\nconcept A\nsub A r", 3, OntologyKind::WrongKind),
-        (b"role r\nconcept A\nsub some A B", 3, OntologyKind::WrongKind),
+        (
+            b"role r\nconcept A\nsub some A B",
+            3,
+            OntologyKind::WrongKind,
+        ),
         (b"concept A\nsub A some B A", 2, OntologyKind::Unknown),
-        (b"role r\nconcept A\nsub some r some inv r r", 3, OntologyKind::WrongKind),
+        (
+            b"role r\nconcept A\nsub some r some inv r r",
+            3,
+            OntologyKind::WrongKind,
+        ),
         (b"\x1f\x8b\x08", 1, OntologyKind::BadLine),
     ];
     for (text, line, kind) in cases {
