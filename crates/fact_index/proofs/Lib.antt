@@ -1,0 +1,5 @@
+pub mod Orders
+pub mod SortedRuns
+pub mod PredicateTests
+pub mod Dedup
+pub mod OneFact

@@ -1,0 +1,7 @@
+pub mod Extensions
+pub mod Adding
+pub mod Witnesses
+pub mod RowOrder
+pub mod MergedRows
+pub mod GatheredRows
+pub mod OneQuery

@@ -1,0 +1,4 @@
+pub mod Bindings
+pub mod Answers
+pub mod Gathered
+pub mod Partial
