@@ -1,6 +1,6 @@
 -- The rows of individuals that are gathered in rising order.
-use Rattle.std.proofs.Common.{◌≡◌, ℕ, zero, suc, ◌+◌, ◌<◌, ◌≤◌, ◌⊎◌, inl, inr, List, [], ◌∷◌, ◌++◌, length, get_or, take, Some, None, Option, refl, sym, ◌∙◌, ap, subst, arith, Bool, true, false, cond}
-use Rattle.std.specs.Prelude.{slice_get, ◌==◌}
+use Rattle.std.proofs.Common.{◌≡◌, ℕ, suc, ◌<◌, ◌≤◌, ◌⊎◌, inl, inr, List, [], ◌∷◌, ◌++◌, length, get_or, take, Some, None, Option, refl, sym, ◌∙◌, ap, subst, arith, Bool, true, false, cond}
+use Rattle.std.specs.Prelude.{◌==◌}
 use Rattle.std.specs.List.{Contains, filter_map, cons_option}
 use Rattle.std.specs.List.Sorted.{IsNonDecreasingBy, IsPermutation}
 use Rattle.std.proofs.lemmas.List.{get_or-take, get_or_default, length-take-le}
@@ -13,7 +13,7 @@ use Rattle.dl_syntax.specs.declared.names.IndId.{IndId}
 use Rattle.dl_syntax.specs.declared.facts.Element.TheVariants.{Ind, Null}
 use Rattle.dl_syntax.specs.declared.facts.Fact.{Fact}
 use Rattle.dl_syntax.specs.declared.facts.Fact.TheVariants as fact
-use Rattle.dl_syntax.specs.Rows.{Relation, IsRising, IsBelow, IsAboveLast}
+use Rattle.dl_syntax.specs.Rows.{Relation, IsBelow, IsAboveLast}
 use Rattle.dl_syntax.proofs.AllByCons.{Contains-first, Contains-later, Contains-cons_cases}
 use Rattle.dl_syntax.proofs.RowLists.{IsRising-push}
 use Rattle.monitor_core.specs.Instances.{individual_of, AreInstances, AreRowsFrom, EndsWith}

@@ -1,6 +1,6 @@
 -- The individuals that facts put into a concept.
-use Rattle.std.specs.Prelude.{◌≡◌, ℕ, ◌+◌, ◌<◌, ◌≤◌, ◌==◌, ◌↔◌, ◌⊎◌, Option, Some, None, List, [], ◌∷◌, length, slice_get, if◌then◌else◌}
-use Rattle.std.specs.List.{All, Contains}
+use Rattle.std.specs.Prelude.{◌≡◌, ℕ, ◌+◌, ◌==◌, ◌↔◌, Option, Some, None, List, [], ◌∷◌, length, slice_get, if◌then◌else◌}
+use Rattle.std.specs.List.{Contains}
 use Rattle.dl_syntax.specs.declared.names.ConceptId.{ConceptId}
 use Rattle.dl_syntax.specs.declared.names.IndId.{IndId}
 use Rattle.dl_syntax.specs.declared.facts.Element.TheVariants.{Ind, Null}

@@ -1,7 +1,6 @@
 -- The history that a monitor stands for.
 use Rattle.std.specs.Prelude.{◌≡◌, ℕ, ◌-◌, ◌^◌, min, true, List, [], ◌∷◌, length}
 use Rattle.dl_syntax.specs.declared.facts.Fact.{Fact}
-use Rattle.dl_syntax.specs.Chase.{IsConsistent}
 use Rattle.dl_syntax.specs.Rows.{Relation}
 use Rattle.tcq_syntax.specs.Histories.{History, with_snapshot}
 use Rattle.monitor_core.specs.declared.monitor.Monitor.{Monitor}

@@ -2,20 +2,20 @@
 use Rattle.std.proofs.Common.{◌≡◌, ℕ, ◌+◌, ◌<◌, ◌≤◌, ◌^◌, inl, inr, Option, None, Some, Ok, Err, List, [], ◌∷◌, ◌++◌, length, refl, sym, ◌∙◌, ap, subst, arith, length-append}
 use Rattle.std.specs.Prelude.{◌⊎◌}
 use Rattle.dl_syntax.specs.Ontology.{Declared}
-use Rattle.tcq_syntax.specs.Tcq.{Tcq}
 use Rattle.edge_io.specs.Held.{Store, Lacks}
 use Rattle.edge_io.specs.Known.{Takes}
 use Rattle.ontology_reader.specs.Texts.{text_says}
+use Rattle.tcq_reader.specs.Reading.{SaysQueries}
 use Rattle.monitor_core.specs.Setting.{IsPlain}
 use Rattle.monitor_run.specs.declared.ending.Status.{Status}
 use Rattle.monitor_run.specs.declared.ending.Status.TheVariants as status
 use Rattle.monitor_run.specs.declared.ending.Ending.{Ending}
-use Rattle.monitor_run.specs.declared.ending.Ending.TheVariants.{Done, Usage, BadOntology, UnbuiltOntology, UnbuiltQueries, ReadFault, WriteFault, Memory, StreamLimit}
+use Rattle.monitor_run.specs.declared.ending.Ending.TheVariants.{Done, Usage, BadOntology, UnbuiltOntology, BadQueries, UnbuiltQueries, ReadFault, WriteFault, Memory, StreamLimit}
 use Rattle.monitor_run.specs.Ends.{status_of}
-use Rattle.monitor_run.specs.FirstQuery.{IsFirstQuery}
 use Rattle.monitor_run.specs.Laws.{IsGood, Completeness}
-use Rattle.monitor_run.specs.Opening.{AreWatch, HasText, SaysOntology}
+use Rattle.monitor_run.specs.Opening.{AreWatch, HasText, SaysOntology, AreAnswerable, RefusesQueries}
 use Rattle.monitor_run.specs.Running.{Outside, RunEnds}
+use Rattle.monitor_run.proofs.QueryTexts.{one_saying, no_fault}
 
 -- the words name one file of each kind
 same_names : (words : List (List ℕ)) (o q o' q' : List ℕ) → AreWatch words o q → AreWatch words o' q' → (o' ≡ o) × (q' ≡ q)
@@ -55,6 +55,13 @@ module _ (words : List (List ℕ)) (before now : Outside) (good : IsGood words b
       let both : Ok ontology ≡ Ok good.ontology = sym there.says ∙ good.ontology_says.says in
       cc
 
+  -- the text of the queries says what it is to say
+  same_saying : (ending : Ending) (o q : List ℕ) → o ≡ good.ontology_name → q ≡ good.queries_name → (refuses : RefusesQueries before.held o q ending) → SaysQueries refuses.ontology refuses.text good.queries
+  same_saying ending o q one two refuses =
+      let ontology = same_ontology o refuses.ontology_text refuses.ontology one refuses.ontology_has refuses.ontology_says in
+      let text = same_text before.held good.files good.queries_name q good.queries_text refuses.text good.held good.queries_there two refuses.has in
+      subst (λ (d : Declared). SaysQueries d refuses.text good.queries) (sym ontology) (subst (λ (t : List ℕ). SaysQueries good.ontology t good.queries) (sym text) good.queries_say.say)
+
   complete : (ending : Ending) → RunEnds ending words before now → (status_of ending ≡ status.Done) ⊎ (status_of ending ≡ status.Memory)
   complete Done ends = inl refl
   complete Memory ends = inr refl
@@ -72,12 +79,16 @@ module _ (words : List (List ℕ)) (before now : Outside) (good : IsGood words b
       let both : Ok fault.0 ≡ Ok good.ontology = sym fault.1 ∙ (ap text_says text ∙ good.ontology_says.says) in
       let same : good.ontology ≡ fault.0 = cc in
       absurd (fault.2 (subst IsPlain same good.ontology_says.plain))
+  complete (BadQueries line kind) (o, q, are, refused) =
+      let names = same_names words good.ontology_name good.queries_name o q good.words_are are in
+      let both = refused.refuses in
+      absurd (no_fault both.ontology both.text good.queries line (same_saying (BadQueries line kind) o q names.0 names.1 both) kind both.refused)
   complete UnbuiltQueries (o, q, are, refused) =
       let names = same_names words good.ontology_name good.queries_name o q good.words_are are in
       let both = refused.refuses in
-      let ontology = same_ontology o both.ontology_text both.ontology names.0 both.ontology_has both.ontology_says in
-      let text = same_text before.held good.files good.queries_name q good.queries_text both.text good.held good.queries_there names.1 both.has in
-      absurd (both.refused good.query (subst (λ (d : Declared). IsFirstQuery d both.text good.query) (sym ontology) (subst (λ (t : List ℕ). IsFirstQuery good.ontology t good.query) (sym text) good.query_says)))
+      let unbuilt = both.refused in
+      let same = one_saying both.ontology both.text good.queries unbuilt.0 (same_saying UnbuiltQueries o q names.0 names.1 both) unbuilt.1 in
+      absurd (unbuilt.2 (subst AreAnswerable same good.queries_say.are))
   complete ReadFault (o, q, are, inl refused) =
       let names = same_names words good.ontology_name good.queries_name o q good.words_are are in
       elim refused.refuses [

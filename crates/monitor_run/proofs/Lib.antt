@@ -1,10 +1,11 @@
 mod Rendering
 mod ToldLaws
+mod ReportLaws
 mod Sayings
 mod ReplyLaws
 mod Serving
 mod Stopping
-mod FirstQueries
+mod QueryTexts
 mod Texts
 mod RunLaws
 mod Completing

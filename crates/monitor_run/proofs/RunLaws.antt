@@ -7,7 +7,7 @@ use Rattle.edge_io.specs.Writing.{Writes}
 use Rattle.monitor_core.specs.Setting.{Setting}
 use Rattle.monitor_core.specs.Standing.{no_history}
 use Rattle.monitor_run.specs.declared.ending.Ending.{Ending}
-use Rattle.monitor_run.specs.declared.ending.Ending.TheVariants.{Done, Usage, BadOntology, UnbuiltOntology, UnbuiltQueries, ReadFault, WriteFault, Memory, StreamLimit}
+use Rattle.monitor_run.specs.declared.ending.Ending.TheVariants.{Done, Usage, BadOntology, UnbuiltOntology, BadQueries, UnbuiltQueries, ReadFault, WriteFault, Memory, StreamLimit}
 use Rattle.monitor_run.specs.Opening.{AreWatch, IsWatch, Opens, Refuses}
 use Rattle.monitor_run.specs.Watching.{Watched}
 use Rattle.monitor_run.specs.Running.{Outside, IsUntouched, WatchedFiles, RefusedFiles, FilesEnd, ThreeEnd, RunEnds, Says}
@@ -17,6 +17,7 @@ files_watched Done o q before now setting opens watched read write = record { se
 files_watched Usage o q before now setting opens watched read write = watched.writes
 files_watched (BadOntology line kind) o q before now setting opens watched read write = absurd watched.writes
 files_watched UnbuiltOntology o q before now setting opens watched read write = absurd watched.writes
+files_watched (BadQueries line kind) o q before now setting opens watched read write = absurd watched.writes
 files_watched UnbuiltQueries o q before now setting opens watched read write = absurd watched.writes
 files_watched ReadFault o q before now setting opens watched read write = inr (read refl, record { setting = setting; opens = opens; watched = watched })
 files_watched WriteFault o q before now setting opens watched read write = (write refl, record { setting = setting; opens = opens; watched = watched })
@@ -28,6 +29,7 @@ files_refused Done o q before now refuses untouched = absurd refuses
 files_refused Usage o q before now refuses untouched = refuses
 files_refused (BadOntology line kind) o q before now refuses untouched = record { refuses = refuses; untouched = untouched }
 files_refused UnbuiltOntology o q before now refuses untouched = record { refuses = refuses; untouched = untouched }
+files_refused (BadQueries line kind) o q before now refuses untouched = record { refuses = refuses; untouched = untouched }
 files_refused UnbuiltQueries o q before now refuses untouched = record { refuses = refuses; untouched = untouched }
 files_refused ReadFault o q before now refuses untouched = inl (record { refuses = refuses; untouched = untouched })
 files_refused WriteFault o q before now refuses untouched = absurd refuses
@@ -39,6 +41,7 @@ three_ends Done c o q before now watch ends = (watch, ends)
 three_ends Usage c o q before now watch ends = absurd ends
 three_ends (BadOntology line kind) c o q before now watch ends = (watch, ends)
 three_ends UnbuiltOntology c o q before now watch ends = (watch, ends)
+three_ends (BadQueries line kind) c o q before now watch ends = (watch, ends)
 three_ends UnbuiltQueries c o q before now watch ends = (watch, ends)
 three_ends ReadFault c o q before now watch ends = (watch, ends)
 three_ends WriteFault c o q before now watch ends = (watch, ends)
@@ -62,6 +65,7 @@ module _ (words : List (List ℕ)) (c o q : List ℕ) (before now : Outside) (is
   words_end Usage ends = (never_watch words c o q is ends.0, ends.1)
   words_end (BadOntology line kind) ends = (o, q, are_watch ends.0, ends.1)
   words_end UnbuiltOntology ends = (o, q, are_watch ends.0, ends.1)
+  words_end (BadQueries line kind) ends = (o, q, are_watch ends.0, ends.1)
   words_end UnbuiltQueries ends = (o, q, are_watch ends.0, ends.1)
   words_end ReadFault ends = (o, q, are_watch ends.0, ends.1)
   words_end WriteFault ends = (o, q, are_watch ends.0, ends.1)

@@ -10,12 +10,14 @@ use Rattle.edge_io.specs.Held.{Store, IsFetched}
 use Rattle.ontology_reader.specs.declared.OntologyKind.{OntologyKind}
 use Rattle.ontology_reader.specs.declared.OntologyKind.TheVariants.{TooLong}
 use Rattle.ontology_reader.specs.Texts.{text_says, lines_added}
+use Rattle.tcq_reader.specs.declared.faults.QueryKind.{QueryKind}
+use Rattle.tcq_reader.specs.Reading.{SaysQueries, IsFault}
 use Rattle.monitor_core.specs.declared.monitor.Monitor.{Monitor}
 use Rattle.monitor_core.specs.Setting.{Setting, IsPlain}
 use Rattle.monitor_run.specs.declared.ending.Ending.{Ending}
-use Rattle.monitor_run.specs.declared.ending.Ending.TheVariants.{Done, Usage, BadOntology, UnbuiltOntology, UnbuiltQueries, ReadFault, WriteFault, Memory, StreamLimit}
-use Rattle.monitor_run.specs.FirstQuery.{IsFirstQuery}
-use Rattle.monitor_run.specs.Opening.{HasText, SaysOntology, SaysQuery, IsOntologyRefused, IsQueryRefused, Opens, RefusesOntology, RefusesQueries, Refuses}
+use Rattle.monitor_run.specs.declared.ending.Ending.TheVariants.{Done, Usage, BadOntology, UnbuiltOntology, BadQueries, UnbuiltQueries, ReadFault, WriteFault, Memory, StreamLimit}
+use Rattle.monitor_run.specs.Opening.{HasText, SaysOntology, SaysAnswerable, IsOntologyRefused, AreQueriesRefused, Opens, RefusesOntology, RefusesQueries, Refuses}
+use Rattle.monitor_run.proofs.QueryTexts.{fault_too_long}
 
 -- the bytes are the text, or both have more bytes than the limit
 abbrev Cut : ℕ → List ℕ → List ℕ → Type 0
@@ -52,13 +54,13 @@ same_ontology : (text bytes : List ℕ) → Cut 4194304 text bytes → text_says
 same_ontology text bytes (inl same) = ap text_says same
 same_ontology text bytes (inr long) = too_long text long.0 ∙ sym (too_long bytes long.1)
 
-query_there : (ontology : Declared) (text bytes : List ℕ) (query : Tcq) → Cut 4194304 text bytes → IsFirstQuery ontology bytes query → IsFirstQuery ontology text query
-query_there ontology text bytes query (inl same) is = subst (λ (t : List ℕ). IsFirstQuery ontology t query) (sym same) is
-query_there ontology text bytes query (inr long) is = let short : length bytes ≤ 4194304 = is.short in absurd (omega (arith, long.1))
+queries_there : (ontology : Declared) (text bytes : List ℕ) (queries : List Tcq) → Cut 4194304 text bytes → SaysQueries ontology bytes queries → SaysQueries ontology text queries
+queries_there ontology text bytes queries (inl same) says = subst (λ (t : List ℕ). SaysQueries ontology t queries) (sym same) says
+queries_there ontology text bytes queries (inr long) says = let short : length bytes ≤ 4194304 = says.short in absurd (omega (arith, long.1))
 
-query_here : (ontology : Declared) (text bytes : List ℕ) (query : Tcq) → Cut 4194304 text bytes → IsFirstQuery ontology text query → IsFirstQuery ontology bytes query
-query_here ontology text bytes query (inl same) is = subst (λ (t : List ℕ). IsFirstQuery ontology t query) same is
-query_here ontology text bytes query (inr long) is = let short : length text ≤ 4194304 = is.short in absurd (omega (arith, long.0))
+fault_there : (ontology : Declared) (text bytes : List ℕ) (line : ℕ) (kind : QueryKind) → Cut 4194304 text bytes → IsFault ontology bytes line kind → IsFault ontology text line kind
+fault_there ontology text bytes line kind (inl same) is = subst (λ (t : List ℕ). IsFault ontology t line kind) (sym same) is
+fault_there ontology text bytes line kind (inr long) is = fault_too_long ontology bytes text line long.1 long.0 kind is
 
 says_there : (text bytes : List ℕ) (ontology : Declared) → Cut 4194304 text bytes → SaysOntology bytes ontology → SaysOntology text ontology
 says_there text bytes ontology cut says = record { says = same_ontology text bytes cut ∙ says.says; plain = says.plain }
@@ -69,6 +71,7 @@ refused_there text bytes UnbuiltOntology cut is = (is.0, same_ontology text byte
 refused_there text bytes Memory cut is = is
 refused_there text bytes Done cut is = is
 refused_there text bytes Usage cut is = is
+refused_there text bytes (BadQueries line kind) cut is = is
 refused_there text bytes UnbuiltQueries cut is = is
 refused_there text bytes ReadFault cut is = is
 refused_there text bytes WriteFault cut is = is
@@ -84,6 +87,7 @@ refuses_ontology held before now name queries bytes read UnbuiltOntology is same
 refuses_ontology held before now name queries bytes read Memory is same refused = tt
 refuses_ontology held before now name queries bytes read Done is same refused = refused
 refuses_ontology held before now name queries bytes read Usage is same refused = refused
+refuses_ontology held before now name queries bytes read (BadQueries line kind) is same refused = absurd refused
 refuses_ontology held before now name queries bytes read UnbuiltQueries is same refused = absurd refused
 refuses_ontology held before now name queries bytes read ReadFault is same refused = absurd refused
 refuses_ontology held before now name queries bytes read WriteFault is same refused = refused
@@ -104,7 +108,7 @@ read_both held later name queries ontology ontology_bytes ontology_read bytes re
   queries_fetched = subst (IsFetched held queries 4194304) (sym is) (subst (λ (h : Option Store). IsFetched h queries 4194304 bytes) stays other);
 }
 
-pub opens : (held : Option Store) (name queries : List ℕ) (ontology : Declared) (text : List ℕ) (query : Tcq) (setting : Setting) → ReadBoth held name queries ontology text → SaysQuery ontology text query → setting ≡ record { ontology = ontology; queries = query ∷ [] } → Opens held name queries setting
+pub opens : (held : Option Store) (name queries : List ℕ) (ontology : Declared) (text : List ℕ) (query : Tcq) (setting : Setting) → ReadBoth held name queries ontology text → SaysAnswerable ontology text (query ∷ []) → setting ≡ record { ontology = ontology; queries = query ∷ [] } → Opens held name queries setting
 opens held name queries ontology text query setting both says is =
     let one = fetched held name both.ontology_bytes both.ontology_fetched in
     let other = fetched held queries text both.queries_fetched in
@@ -114,13 +118,23 @@ opens held name queries ontology text query setting both says is =
       ontology_says = says_there one.text both.ontology_bytes ontology one.cut both.ontology_says;
       queries_text = other.text;
       queries_has = other.has;
-      query = query;
-      query_says = query_there ontology other.text text query other.cut says.is;
-      queries_are = refl;
+      queries_say = record { say = queries_there ontology other.text text (query ∷ []) other.cut says.say; are = says.are };
     })
 
-pub refuses_queries : (held : Option Store) (before now : ℕ) (name queries : List ℕ) (ontology : Declared) (text : List ℕ) (ending : Ending) → ReadBoth held name queries ontology text → IsQueryRefused ontology text ending → Refuses held before now name queries ending
-refuses_queries held before now name queries ontology text UnbuiltQueries both refused =
+queries_refused_there : (ontology : Declared) (text bytes : List ℕ) (ending : Ending) → Cut 4194304 text bytes → AreQueriesRefused ontology bytes ending → AreQueriesRefused ontology text ending
+queries_refused_there ontology text bytes (BadQueries line kind) cut is = fault_there ontology text bytes line kind cut is
+queries_refused_there ontology text bytes UnbuiltQueries cut is = (is.0, queries_there ontology text bytes is.0 cut is.1, is.2)
+queries_refused_there ontology text bytes Memory cut is = is
+queries_refused_there ontology text bytes Done cut is = is
+queries_refused_there ontology text bytes Usage cut is = is
+queries_refused_there ontology text bytes (BadOntology line kind) cut is = is
+queries_refused_there ontology text bytes UnbuiltOntology cut is = is
+queries_refused_there ontology text bytes ReadFault cut is = is
+queries_refused_there ontology text bytes WriteFault cut is = is
+queries_refused_there ontology text bytes StreamLimit cut is = is
+
+refuses_said : (held : Option Store) (name queries : List ℕ) (ontology : Declared) (text : List ℕ) (ending : Ending) → ReadBoth held name queries ontology text → AreQueriesRefused ontology text ending → RefusesQueries held name queries ending
+refuses_said held name queries ontology text ending both refused =
     let one = fetched held name both.ontology_bytes both.ontology_fetched in
     let other = fetched held queries text both.queries_fetched in
     record {
@@ -130,8 +144,12 @@ refuses_queries held before now name queries ontology text UnbuiltQueries both r
       ontology_says = says_there one.text both.ontology_bytes ontology one.cut both.ontology_says;
       text = other.text;
       has = other.has;
-      refused = λ query is. refused query (query_here ontology other.text text query other.cut is);
+      refused = queries_refused_there ontology other.text text ending other.cut refused;
     }
+
+pub refuses_queries : (held : Option Store) (before now : ℕ) (name queries : List ℕ) (ontology : Declared) (text : List ℕ) (ending : Ending) → ReadBoth held name queries ontology text → AreQueriesRefused ontology text ending → Refuses held before now name queries ending
+refuses_queries held before now name queries ontology text (BadQueries line kind) both refused = refuses_said held name queries ontology text (BadQueries line kind) both refused
+refuses_queries held before now name queries ontology text UnbuiltQueries both refused = refuses_said held name queries ontology text UnbuiltQueries both refused
 refuses_queries held before now name queries ontology text Memory both refused = tt
 refuses_queries held before now name queries ontology text Done both refused = refused
 refuses_queries held before now name queries ontology text Usage both refused = refused

@@ -7,8 +7,7 @@ use Rattle.edge_io.specs.Causes.{Rose}
 use Rattle.edge_io.specs.Held.{Store}
 use Rattle.monitor_run.specs.declared.ending.Status.{Status}
 use Rattle.monitor_run.specs.declared.ending.Status.TheVariants.{Done, Memory}
-use Rattle.monitor_run.specs.FirstQuery.{IsFirstQuery}
-use Rattle.monitor_run.specs.Opening.{AreWatch, SaysOntology}
+use Rattle.monitor_run.specs.Opening.{AreWatch, SaysOntology, SaysAnswerable}
 use Rattle.monitor_run.specs.Running.{Outside, Ran}
 
 -- the words name files that have no fault, the stream is within its limit, and no count rose
@@ -24,8 +23,8 @@ pub record IsGood (words : List (List ℕ)) (before now : Outside) : Type 0 wher
   pub ontology_says : SaysOntology ontology_text ontology
   pub queries_text : List ℕ
   pub queries_there : files queries_name ≡ Some queries_text
-  pub query : Tcq
-  pub query_says : IsFirstQuery ontology queries_text query
+  pub queries : List Tcq
+  pub queries_say : SaysAnswerable ontology queries_text queries
   pub stream : List ℕ
   pub left : before.left ≡ Some stream
   pub short : length stream ≤ 2 ^ 40

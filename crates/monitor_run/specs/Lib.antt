@@ -6,7 +6,7 @@ pub mod Writing
 pub mod Watching
 pub mod Ends
 pub mod Serving
-pub mod FirstQuery
 pub mod Opening
 pub mod Running
 pub mod Laws
+pub mod ReportLaws

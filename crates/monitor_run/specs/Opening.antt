@@ -5,12 +5,12 @@ use Rattle.tcq_syntax.specs.Tcq.{Tcq}
 use Rattle.edge_io.specs.Causes.{Rose}
 use Rattle.edge_io.specs.Held.{Store, Lacks}
 use Rattle.ontology_reader.specs.Texts.{text_says}
+use Rattle.tcq_reader.specs.Reading.{SaysQueries, IsFault}
 use Rattle.monitor_core.specs.Setting.{Setting, IsPlain, AsksInstances}
 use Rattle.monitor_core.specs.declared.monitor.Monitor.{Monitor}
 use Rattle.monitor_core.specs.Standing.{Stands, setting_of, no_history}
 use Rattle.monitor_run.specs.declared.ending.Ending.{Ending}
-use Rattle.monitor_run.specs.declared.ending.Ending.TheVariants.{BadOntology, UnbuiltOntology, UnbuiltQueries, ReadFault, Memory}
-use Rattle.monitor_run.specs.FirstQuery.{IsFirstQuery}
+use Rattle.monitor_run.specs.declared.ending.Ending.TheVariants.{BadOntology, UnbuiltOntology, BadQueries, UnbuiltQueries, ReadFault, Memory}
 
 -- a word that names a file isn't empty and doesn't begin with `-`
 abbrev pub IsFileWord : List ℕ → Type 0
@@ -45,16 +45,23 @@ IsOntologyRefused text UnbuiltOntology = (ontology : Declared) × (text_says tex
 IsOntologyRefused text Memory = Unit {0}
 IsOntologyRefused text _ = ⊥
 
--- the text says this query under the ontology
-pub record SaysQuery (ontology : Declared) (text : List ℕ) (query : Tcq) : Type 0 where
-  pub is : IsFirstQuery ontology text query
-  pub asks : AsksInstances query
+-- the queries are one, which asks for the instances of a concept
+abbrev pub AreAnswerable : List Tcq → Type 0
+AreAnswerable [] = ⊥
+AreAnswerable (query ∷ []) = AsksInstances query
+AreAnswerable (query ∷ other ∷ queries) = ⊥
 
--- the text of the queries is refused so
-abbrev pub IsQueryRefused : Declared → List ℕ → Ending → Type 0
-IsQueryRefused ontology text UnbuiltQueries = (query : Tcq) → ¬ IsFirstQuery ontology text query
-IsQueryRefused ontology text Memory = Unit {0}
-IsQueryRefused ontology text _ = ⊥
+-- the text says these queries under the ontology, and they are such a one
+pub record SaysAnswerable (ontology : Declared) (text : List ℕ) (queries : List Tcq) : Type 0 where
+  pub say : SaysQueries ontology text queries
+  pub are : AreAnswerable queries
+
+-- the text of the queries is refused so: for its first fault, or where it has none, for what it says
+abbrev pub AreQueriesRefused : Declared → List ℕ → Ending → Type 0
+AreQueriesRefused ontology text (BadQueries line kind) = IsFault ontology text line kind
+AreQueriesRefused ontology text UnbuiltQueries = (queries : List Tcq) × SaysQueries ontology text queries × ¬ AreAnswerable queries
+AreQueriesRefused ontology text Memory = Unit {0}
+AreQueriesRefused ontology text _ = ⊥
 
 -- a fetch of this name failed
 abbrev pub IsFetchRefused : Option Store → ℕ → ℕ → List ℕ → Ending → Type 0
@@ -69,9 +76,7 @@ pub record Opens (held : Option Store) (ontology_name queries_name : List ℕ) (
   pub ontology_says : SaysOntology ontology_text setting.ontology
   pub queries_text : List ℕ
   pub queries_has : HasText held queries_name queries_text
-  pub query : Tcq
-  pub query_says : IsFirstQuery setting.ontology queries_text query
-  pub queries_are : setting.queries ≡ query ∷ []
+  pub queries_say : SaysAnswerable setting.ontology queries_text setting.queries
 
 -- the ontology's text is refused
 pub record RefusesOntology (held : Option Store) (ontology_name : List ℕ) (ending : Ending) : Type 0 where
@@ -80,20 +85,21 @@ pub record RefusesOntology (held : Option Store) (ontology_name : List ℕ) (end
   pub refused : IsOntologyRefused text ending
 
 -- the ontology's text has no fault, and the queries' text is refused
-pub record RefusesQueries (held : Option Store) (ontology_name queries_name : List ℕ) : Type 0 where
+pub record RefusesQueries (held : Option Store) (ontology_name queries_name : List ℕ) (ending : Ending) : Type 0 where
   pub ontology : Declared
   pub ontology_text : List ℕ
   pub ontology_has : HasText held ontology_name ontology_text
   pub ontology_says : SaysOntology ontology_text ontology
   pub text : List ℕ
   pub has : HasText held queries_name text
-  pub refused : (query : Tcq) → ¬ IsFirstQuery ontology text query
+  pub refused : AreQueriesRefused ontology text ending
 
 -- why the opening failed, by the first failure
 abbrev pub Refuses : Option Store → ℕ → ℕ → List ℕ → List ℕ → Ending → Type 0
 Refuses held before now ontology queries (BadOntology line kind) = RefusesOntology held ontology (BadOntology line kind)
 Refuses held before now ontology queries UnbuiltOntology = RefusesOntology held ontology UnbuiltOntology
-Refuses held before now ontology queries UnbuiltQueries = RefusesQueries held ontology queries
+Refuses held before now ontology queries (BadQueries line kind) = RefusesQueries held ontology queries (BadQueries line kind)
+Refuses held before now ontology queries UnbuiltQueries = RefusesQueries held ontology queries UnbuiltQueries
 Refuses held before now ontology queries ReadFault = Rose before now ⊎ Lacks held ontology ⊎ Lacks held queries
 Refuses held before now ontology queries Memory = Unit {0}
 Refuses held before now ontology queries _ = ⊥

@@ -78,6 +78,7 @@ fn status(ending: Ending) -> Status
         Ending::Usage => Status::Usage,
         Ending::BadOntology(_, _) => Status::BadOntology,
         Ending::UnbuiltOntology => Status::BadOntology,
+        Ending::BadQueries(_, _) => Status::BadQueries,
         Ending::UnbuiltQueries => Status::BadQueries,
         Ending::ReadFault => Status::ReadFault,
         Ending::WriteFault => Status::WriteFault,

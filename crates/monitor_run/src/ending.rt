@@ -1,4 +1,5 @@
 use ontology_reader::OntologyKind;
+use tcq_reader::QueryKind;
 
 /// How a run ended. Its number is the exit status of the program.
 #[derive(Clone, Copy, Debug, PartialEq, Eq)]
@@ -21,6 +22,7 @@ pub enum Ending {
     BadOntology(u64, OntologyKind),
     /// The ontology has an inclusion or a clash.
     UnbuiltOntology,
+    BadQueries(u64, QueryKind),
     /// The queries aren't one that asks for the instances of a concept.
     UnbuiltQueries,
     ReadFault,

@@ -1,12 +1,13 @@
 // The line on the error sink, made in an array, so that it takes no memory.
 ghost use Rattle.std.specs.Prelude.{◌≡◌, ◌++◌, ◌+◌, ◌≤◌, length};
 ghost use Rattle.arrayvec.specs.ArrayVec.{array_vec_len};
-ghost use Rattle.monitor_run.specs.Ends.{kind_text, line_of};
+ghost use Rattle.monitor_run.specs.Ends.{kind_text, query_kind_text, line_of};
 
 use crate::ending::Ending;
 use arrayvec::ArrayVec;
 use itoa::Buffer;
 use ontology_reader::OntologyKind;
+use tcq_reader::QueryKind;
 
 /// Appends bytes that fit.
 fn put(line: &mut ArrayVec<u8, 256>, bytes: &[u8])
@@ -44,6 +45,48 @@ fn put_fault(out: &mut ArrayVec<u8, 256>, line: u64, kind: OntologyKind)
     put(out, b"\n");
 }
 
+/// Appends the size of queries that are too large.
+fn put_total(out: &mut ArrayVec<u8, 256>, total: u128)
+    requires { array_vec_len out.old ≤ 128 }
+    ensures items { out.new.items ≡ out.old.items ++ query_kind_text (QueryKind.TooLarge total) }
+    ensures len { array_vec_len out.new ≤ array_vec_len out.old + 64 }
+{
+    let mut buffer = Buffer::new();
+    put(out, b"too-large ");
+    put(out, buffer.format(total).as_bytes());
+}
+
+/// Appends what is wrong with the queries.
+fn put_query_kind(out: &mut ArrayVec<u8, 256>, kind: QueryKind)
+    requires { array_vec_len out.old ≤ 128 }
+    ensures items { out.new.items ≡ out.old.items ++ query_kind_text kind }
+    ensures len { array_vec_len out.new ≤ array_vec_len out.old + 64 }
+{
+    match kind {
+        QueryKind::BadQuery => put(out, b"bad-query"),
+        QueryKind::NameTwice => put(out, b"name-twice"),
+        QueryKind::Unknown => put(out, b"unknown"),
+        QueryKind::WrongKind => put(out, b"wrong-kind"),
+        QueryKind::Undeclared => put(out, b"undeclared"),
+        QueryKind::TooMany => put(out, b"too-many"),
+        QueryKind::TooLarge(total) => put_total(out, total),
+        QueryKind::TooLong => put(out, b"too-long"),
+    }
+}
+
+/// The line of a fault of the queries.
+fn put_query_fault(out: &mut ArrayVec<u8, 256>, line: u64, kind: QueryKind)
+    requires { array_vec_len out.old ≡ 0 }
+    ensures { out.new.items ≡ out.old.items ++ line_of (Ending.BadQueries line kind) }
+{
+    let mut buffer = Buffer::new();
+    put(out, b"tom: queries line ");
+    put(out, buffer.format(line).as_bytes());
+    put(out, b": ");
+    put_query_kind(out, kind);
+    put(out, b"\n");
+}
+
 /// The line that says how a run ended, if there is one.
 pub fn error_line(ending: Ending) -> ArrayVec<u8, 256>
     ensures { result.items ≡ line_of ending }
@@ -54,6 +97,7 @@ pub fn error_line(ending: Ending) -> ArrayVec<u8, 256>
         Ending::Usage => put(&mut line, b"tom: usage\n"),
         Ending::BadOntology(number, kind) => put_fault(&mut line, number, kind),
         Ending::UnbuiltOntology => put(&mut line, b"tom: ontology: unbuilt\n"),
+        Ending::BadQueries(number, kind) => put_query_fault(&mut line, number, kind),
         Ending::UnbuiltQueries => put(&mut line, b"tom: queries: unbuilt\n"),
         Ending::ReadFault => put(&mut line, b"tom: read fault\n"),
         Ending::WriteFault => put(&mut line, b"tom: write fault\n"),

@@ -1,10 +1,10 @@
 //! The top call: it watches a stream and writes a report.
 #![tactic(auto)]
 
+mod answerable;
 mod command;
 mod ending;
 mod error_line;
-mod first_query;
 pub mod laws;
 mod opening;
 mod reply;

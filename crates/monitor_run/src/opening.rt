@@ -1,17 +1,19 @@
 // The files that the words name, fetched and read.
-ghost use Rattle.std.specs.Prelude.{◌≡◌, ◌≤◌, IsTrue, ◌↔◌, IfOk, IfErr, MatchResult};
+ghost use Rattle.std.specs.Prelude.{◌≡◌, ◌≤◌, IsTrue, ◌↔◌, [], ◌∷◌, IfOk, IfErr, MatchResult};
 ghost use Rattle.edge_io.specs.Held.{IsFetched};
 ghost use Rattle.monitor_core.specs.Setting.{IsPlain};
 ghost use Rattle.monitor_core.specs.Standing.{Stands, setting_of, no_history};
-ghost use Rattle.monitor_run.specs.Opening.{SaysOntology, IsOntologyRefused, IsFetchRefused, Opens, Refuses, Opened};
+ghost use Rattle.monitor_run.specs.Opening.{SaysOntology, SaysAnswerable, IsOntologyRefused, AreQueriesRefused, IsFetchRefused, Refuses, Opened};
 
+use crate::answerable::answerable;
 use crate::ending::Ending;
-use crate::first_query::read_query;
 use dl_syntax::Ontology;
 use edge_io::{FetchFault, Files};
 use monitor_core::Monitor;
 use ontology_reader::{OntologyFault, read_ontology};
 use std::alloc::Global;
+use tcq_reader::{QueryFault, read_queries};
+use tcq_syntax::Query;
 
 /// How many bytes of a file are fetched, but for one.
 const TEXT_LIMIT: u64 = 4_194_304;
@@ -54,6 +56,20 @@ fn read_plain_ontology(alloc: Global, text: &[u8]) -> Result<Ontology, Ending>
     }
 }
 
+/// The one query of the text, which asks for the instances of a concept, or how the run ends.
+fn read_answerable(alloc: Global, text: &[u8], ontology: &Ontology) -> Result<Query, Ending>
+    ensures { MatchResult result (λ query. SaysAnswerable ontology.now text.now (query ∷ [])) (λ ending. AreQueriesRefused ontology.now text.now ending) }
+{
+    match read_queries(alloc, text, ontology) {
+        Ok(queries) => match answerable(queries) {
+            Some(query) => Ok(query),
+            None => Err(Ending::UnbuiltQueries),
+        },
+        Err(QueryFault::Bad { line, kind }) => Err(Ending::BadQueries(line, kind)),
+        Err(QueryFault::Memory) => Err(Ending::Memory),
+    }
+}
+
 /// The monitor of the files of these names, before any snapshot, or how the run ends.
 pub fn open_files<F: Files>(
     alloc: Global,
@@ -77,7 +93,7 @@ pub fn open_files<F: Files>(
         Ok(text) => text,
         Err(ending) => return Err(ending),
     };
-    match read_query(alloc, &text, &declared) {
+    match read_answerable(alloc, &text, &declared) {
         Ok(query) => Ok(monitor_core::open(declared, query)),
         Err(ending) => Err(ending),
     }

@@ -1,5 +1,7 @@
 ghost use Rattle.std.specs.Prelude.{◌≤◌};
 
+mod queries;
+
 use crate::{Status, run};
 use edge_io::{MemFiles, MemSink, MemSource};
 use std::alloc::Global;
@@ -66,7 +68,8 @@ fn lines_come_in_any_pieces(rt: HostRuntime) -> Result<(), Fail> {
     let stream: &[u8] = b"# start\r\n\r\nsnap Failed(s1)\r\nsnap";
     let wanted: &[u8] =
         b"line 3 accepted 1\nanswer f s1\nline 4 accepted 2\nend accepted 2 refused 0\n";
-    for step in [1, 7, 40, 65_536] {
+    for count in 1..42 {
+        let step = if count == 41 { 65_536 } else { count };
         let (status, report) = watched(alloc, stream, step, &[], 1024, &[])?;
         assert_eq!(rt; status, Status::Done);
         assert_eq!(rt; report.as_slice(), wanted);

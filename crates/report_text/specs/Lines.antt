@@ -1,5 +1,5 @@
 -- The lines of a report in text form.
-use Rattle.std.specs.Prelude.{◌≡◌, ◌<◌, ℕ, List, [], ◌∷◌, ◌++◌, codes, decimal, flat_map, map, length, slice_index_or, slice_get, Some, None}
+use Rattle.std.specs.Prelude.{◌<◌, ℕ, List, [], ◌∷◌, ◌++◌, codes, decimal, flat_map, length, slice_index_or, slice_get, Some, None}
 use Rattle.std.specs.List.{All}
 use Rattle.std.specs.declared.option.Option.{Option}
 use Rattle.dl_syntax.specs.declared.names.IndId.{IndId}

@@ -4,8 +4,8 @@ ghost use Rattle.report_text.specs.Lines.{IsNamed, AreNamed, HasNames, cause_tex
 
 use crate::item::{Cause, Item};
 use crate::numbers::append_number;
-use dl_syntax::{IndId, Kind, Ontology, Tuples};
-use std::alloc::{AllocError, Global};
+use dl_syntax::{IndId, Kind, Memory, Ontology, Tuples};
+use std::alloc::Global;
 use tcq_syntax::Query;
 
 /// How the lines of a report are written.
@@ -23,8 +23,8 @@ pub fn heading(form: LineForm) -> &'static [u8]
     }
 }
 
-// Appends a cause. What stood before stays, also on an error.
-fn append_cause(out: &mut Vec<u8>, cause: &Cause) -> Result<(), AllocError>
+/// Appends a cause. What stood before stays, also on an error.
+fn append_cause(out: &mut Vec<u8>, cause: &Cause) -> Result<(), Memory>
     ensures ok { OnOk result (out.new.items ≡ out.old.items ++ cause_text cause.now) }
     ensures kept { take (vec_len out.old) out.new.items ≡ out.old.items }
 {
@@ -42,7 +42,7 @@ fn append_cause(out: &mut Vec<u8>, cause: &Cause) -> Result<(), AllocError>
     }
 }
 
-fn append_named(out: &mut Vec<u8>, word: &[u8], name: &[u8]) -> Result<(), AllocError>
+fn append_named(out: &mut Vec<u8>, word: &[u8], name: &[u8]) -> Result<(), Memory>
     ensures ok { OnOk result (out.new.items ≡ out.old.items ++ (word.now ++ name.now)) }
     ensures kept { take (vec_len out.old) out.new.items ≡ out.old.items }
 {
@@ -50,8 +50,8 @@ fn append_named(out: &mut Vec<u8>, word: &[u8], name: &[u8]) -> Result<(), Alloc
     out.extend_from_slice(name)
 }
 
-// Appends the names of a row, each after a space.
-fn append_row(out: &mut Vec<u8>, ontology: &Ontology, row: &[IndId]) -> Result<(), AllocError>
+/// Appends the names of a row, each after a space.
+fn append_row(out: &mut Vec<u8>, ontology: &Ontology, row: &[IndId]) -> Result<(), Memory>
     requires { IsNamed ontology.now row.now }
     ensures ok { OnOk result (out.new.items ≡ out.old.items ++ row_text ontology.now.individuals row.now) }
     ensures kept { take (vec_len out.old) out.new.items ≡ out.old.items }
@@ -63,13 +63,13 @@ fn append_row(out: &mut Vec<u8>, ontology: &Ontology, row: &[IndId]) -> Result<(
     Ok(())
 }
 
-// Appends one answer. What stood before stays, also on an error.
+/// Appends one answer. What stood before stays, also on an error.
 fn append_answer(
     out: &mut Vec<u8>,
     query: &[u8],
     ontology: &Ontology,
     row: &[IndId],
-) -> Result<(), AllocError>
+) -> Result<(), Memory>
     requires { IsNamed ontology.now row.now }
     ensures ok { OnOk result (out.new.items ≡ out.old.items ++ answer_text ontology.now.individuals query.now row.now) }
     ensures kept { take (vec_len out.old) out.new.items ≡ out.old.items }
@@ -80,13 +80,13 @@ fn append_answer(
     out.extend_from_slice(b"\n")
 }
 
-// Appends the answers of one query. What stood before stays, also on an error.
+/// Appends the answers of one query. What stood before stays, also on an error.
 fn try_append_answers(
     out: &mut Vec<u8>,
     query: &[u8],
     ontology: &Ontology,
     rows: &Tuples,
-) -> Result<(), AllocError>
+) -> Result<(), Memory>
     requires { AreNamed ontology.now rows.now.rows }
     ensures ok { OnOk result (out.new.items ≡ out.old.items ++ answers_text ontology.now.individuals query.now rows.now.rows) }
     ensures kept { take (vec_len out.old) out.new.items ≡ out.old.items }
@@ -103,7 +103,7 @@ pub fn append_answers(
     query: &Query,
     ontology: &Ontology,
     rows: &Tuples,
-) -> Result<(), AllocError>
+) -> Result<(), Memory>
     requires { AreNamed ontology.now rows.now.rows }
     ensures ok { OnOk result (out.new.items ≡ out.old.items ++ answers_text ontology.now.individuals query.now.name rows.now.rows) }
     ensures err { OnErr result (out.new.items ≡ out.old.items) }
@@ -116,14 +116,14 @@ pub fn append_answers(
     done
 }
 
-// Appends a word and two numbers after words.
+/// Appends a word and two numbers after words.
 fn append_two(
     out: &mut Vec<u8>,
     before: &[u8],
     first: u64,
     between: &[u8],
     second: u64,
-) -> Result<(), AllocError>
+) -> Result<(), Memory>
     ensures ok { OnOk result (out.new.items ≡ out.old.items ++ two_text before.now first between.now second) }
     ensures kept { take (vec_len out.old) out.new.items ≡ out.old.items }
 {
@@ -134,8 +134,8 @@ fn append_two(
     out.extend_from_slice(b"\n")
 }
 
-// Appends the line of a refusal.
-fn append_refused(out: &mut Vec<u8>, line: u64, cause: &Cause) -> Result<(), AllocError>
+/// Appends the line of a refusal.
+fn append_refused(out: &mut Vec<u8>, line: u64, cause: &Cause) -> Result<(), Memory>
     ensures ok { OnOk result (out.new.items ≡ out.old.items ++ refused_text line cause.now) }
     ensures kept { take (vec_len out.old) out.new.items ≡ out.old.items }
 {
@@ -146,13 +146,13 @@ fn append_refused(out: &mut Vec<u8>, line: u64, cause: &Cause) -> Result<(), All
     out.extend_from_slice(b"\n")
 }
 
-// Appends the line of an item. What stood before stays, also on an error.
+/// Appends the line of an item. What stood before stays, also on an error.
 fn try_append_line(
     out: &mut Vec<u8>,
     item: &Item,
     ontology: &Ontology,
     queries: &[Query],
-) -> Result<(), AllocError>
+) -> Result<(), Memory>
     requires { HasNames ontology.now queries.now item.now }
     ensures ok { OnOk result (out.new.items ≡ out.old.items ++ line_text ontology.now queries.now item.now) }
     ensures kept { take (vec_len out.old) out.new.items ≡ out.old.items }
@@ -181,7 +181,7 @@ pub fn append_line(
     form: LineForm,
     ontology: &Ontology,
     queries: &[Query],
-) -> Result<(), AllocError>
+) -> Result<(), Memory>
     requires { HasNames ontology.now queries.now item.now }
     ensures ok { OnOk result (out.new.items ≡ out.old.items ++ line_in form ontology.now queries.now item.now) }
     ensures err { OnErr result (out.new.items ≡ out.old.items) }
@@ -203,7 +203,7 @@ pub fn render_line(
     form: LineForm,
     ontology: &Ontology,
     queries: &[Query],
-) -> Result<Vec<u8>, AllocError>
+) -> Result<Vec<u8>, Memory>
     requires { HasNames ontology.now queries.now item.now }
     ensures { IfOk result (λ line. line.items ≡ line_in form ontology.now queries.now item.now) }
 {

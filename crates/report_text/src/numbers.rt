@@ -1,10 +1,10 @@
 ghost use Rattle.std.specs.Prelude.{◌≡◌, ◌++◌, decimal, OnOk, take, vec_len};
 
+use dl_syntax::Memory;
 use itoa::Buffer;
-use std::alloc::AllocError;
 
 /// Appends the decimal digits of a number.
-pub fn append_number(out: &mut Vec<u8>, number: u64) -> Result<(), AllocError>
+pub fn append_number(out: &mut Vec<u8>, number: u64) -> Result<(), Memory>
     ensures ok { OnOk result (out.new.items ≡ out.old.items ++ decimal number) }
     ensures kept { take (vec_len out.old) out.new.items ≡ out.old.items }
 {

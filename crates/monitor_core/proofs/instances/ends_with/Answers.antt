@@ -1,7 +1,6 @@
-use Rattle.std.proofs.Common.{◌≡◌, ◌+◌, ◌-◌, rules, ap, sym, ◌∙◌, arith, Some, true, subst, length}
+use Rattle.std.proofs.Common.{◌≡◌, ◌-◌, rules, ap, ◌∙◌, arith, Some, subst}
 use Rattle.std.specs.Prelude.{slice_get}
 use Rattle.std.proofs.lemmas.Slice.Eq.{slice_eq-Decides}
-use Rattle.monitor_core.specs.Instances.{EndsWith}
 use Rattle.monitor_core.proofs.instances.ends_with.Goals as goal
 
 pub returns-then-count-gt0 : goal.returns-then-count-gt0

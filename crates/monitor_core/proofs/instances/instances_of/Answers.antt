@@ -1,10 +1,8 @@
-use Rattle.std.proofs.Common.{◌≡◌, List, Result, Ok, Err, ap, sym, subst}
-use Rattle.std.specs.Prelude.{IfOk}
+use Rattle.std.proofs.Common.{List, sym, subst}
 use Rattle.std.specs.List.Sorted.{IsNonDecreasingBy}
 use Rattle.std.proofs.lemmas.Result.{IfOk-weaker}
 use Rattle.std.proofs.lemmas.List.Sorted.{IsNonDecreasingBy-from_sort}
 use Rattle.dl_syntax.specs.declared.names.IndId.{IndId}
-use Rattle.dl_syntax.specs.Rows.{Relation}
 use Rattle.monitor_core.specs.Instances.{AreRowsFrom, AreInstances}
 use Rattle.monitor_core.proofs.InstanceRows.{instances_found}
 use Rattle.monitor_core.proofs.instances.instances_of.Goals as goal

@@ -1,8 +1,8 @@
-use Rattle.std.proofs.Common.{◌≡◌, ◌+◌, ◌++◌, ◌∷◌, [], List, ap, sym, ◌∙◌, arith, subst, take, get_or, true, false}
+use Rattle.std.proofs.Common.{◌≡◌, ◌+◌, ◌++◌, ◌∷◌, [], List, sym, ◌∙◌, arith, subst, take, get_or, true}
 use Rattle.std.proofs.lemmas.List.{take_more}
 use Rattle.dl_syntax.specs.declared.names.IndId.{IndId}
-use Rattle.dl_syntax.specs.Rows.{Relation, IsAboveLast}
-use Rattle.monitor_core.specs.Instances.{AreRowsFrom, EndsWith}
+use Rattle.dl_syntax.specs.Rows.{IsAboveLast}
+use Rattle.monitor_core.specs.Instances.{AreRowsFrom}
 use Rattle.monitor_core.proofs.InstanceRows.{above_last, none_above, pushed, skipped, most_before}
 use Rattle.monitor_core.proofs.instances.rows_from.Goals as goal
 use Rattle.monitor_core.proofs.instances.rows_from.Goals.{then-not-ends_with+in_ok-push, else-not-ends_with}

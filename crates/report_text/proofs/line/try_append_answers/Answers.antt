@@ -1,7 +1,7 @@
-use Rattle.std.proofs.Common.{◌≡◌, ◌<◌, ◌++◌, List, length, get_or, sym, ◌∙◌, ap, arith}
+use Rattle.std.proofs.Common.{◌≡◌, ◌++◌, get_or, sym, ◌∙◌, ap, arith}
 use Rattle.std.proofs.lemmas.Option.{get_or_from_slice_get}
 use Rattle.report_text.proofs.Pieces.{piece_more, kept_first}
-use Rattle.report_text.specs.Lines.{answer_text, answers_text}
+use Rattle.report_text.specs.Lines.{answer_text}
 use Rattle.report_text.proofs.line.try_append_answers.Goals as goal
 
 pub returns-in_err-append_answer-clause-kept : goal.returns-in_err-append_answer-clause-kept

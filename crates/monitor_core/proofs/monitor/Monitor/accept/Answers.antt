@@ -1,10 +1,6 @@
-use Rattle.std.proofs.Common.{◌≡◌, List, ◌∷◌, [], refl, subst, sym, ◌∙◌}
-use Rattle.tcq_syntax.specs.Histories.{History}
-use Rattle.dl_syntax.specs.declared.facts.Fact.{Fact}
-use Rattle.dl_syntax.specs.Rows.{Relation}
-use Rattle.monitor_core.specs.Answering.{AreOver, AreRowsOf}
-use Rattle.monitor_core.specs.Instances.{AreInstances}
-use Rattle.monitor_core.specs.Standing.{Stands, Accepts, setting_of}
+use Rattle.std.proofs.Common.{◌∷◌, [], refl, subst, sym}
+use Rattle.monitor_core.specs.Answering.{AreRowsOf}
+use Rattle.monitor_core.specs.Standing.{setting_of}
 use Rattle.monitor_core.proofs.Accepting.{consistent, are_rows, found_here, accepts}
 use Rattle.monitor_core.proofs.monitor.Monitor.accept.Goals as goal
 
