@@ -1,13 +1,12 @@
 -- The rewriting over an ontology gives its certain answers: the rewriting over the encoding is exact, and the encoding keeps the answers.
-use Rattle.std.proofs.Common.{◌≡◌, ℕ, suc, ◌<◌, List, [], ◌∷◌, ◌++◌, length, map, refl, sym, ◌∙◌, subst, inl, inr}
-use Rattle.std.specs.Prelude.{◌⊎◌, ◌↔◌}
+use Rattle.std.proofs.Common.{◌≡◌, ℕ, suc, List, [], ◌∷◌, length, map, sym, ◌∙◌, subst, inl, inr}
+use Rattle.std.specs.Prelude.{◌↔◌}
 use Rattle.std.specs.List.{All, Contains}
 use Rattle.std.proofs.lemmas.List.Elements.{All-head, All-tail, All-weaker, All-contains, Contains-append_cases}
 use Rattle.dl_syntax.specs.declared.names.IndId.{IndId}
 use Rattle.dl_syntax.specs.declared.facts.Element.{Element}
 use Rattle.dl_syntax.specs.declared.facts.Element.TheVariants.{Ind as ind_element, Null}
 use Rattle.dl_syntax.specs.declared.facts.Fact.{Fact}
-use Rattle.dl_syntax.specs.declared.facts.Fact.TheVariants as fact
 use Rattle.dl_syntax.specs.declared.ontology.Role.{Role}
 use Rattle.dl_syntax.specs.declared.ontology.Basic.{Basic}
 use Rattle.dl_syntax.specs.declared.ontology.Basic.TheVariants as basic
@@ -105,12 +104,12 @@ module _ (concepts roles : ℕ) where
       elim (Contains-cons_cases (inclusion.Concepts b (basic.Some (hidden number))) (inclusion.Roles (hidden number) r ∷ second) i there) [
         | inl same ↦ hidden_visible b number f place made (subst (λ (j : Inclusion). Makes j f place made) (sym same) makes) g here
         | inr later ↦ elim (Contains-cons_cases (inclusion.Roles (hidden number) r) second i later) [
-            | inl same ↦ roles_visible (hidden number) r this.1 f place made (subst (λ (j : Inclusion). Makes j f place made) (sym same) makes) g here
-            | inr later ↦ elim (Contains-cons_cases (inclusion.Concepts (basic.Some (hidden_inverse number)) (basic.Concept c)) (encode (suc number) rest) i later) [
-                | inl same ↦ concepts_visible (basic.Some (hidden_inverse number)) (basic.Concept c) this.2 f place made (subst (λ (j : Inclusion). Makes j f place made) (sym same) makes) g here
-                | inr later ↦ made_visible (suc number) rest (All-tail (IsDeclaredInclusion concepts roles) (inclusion.Qualified b r c) rest declared) i later f place made makes g here
-              ]
+          | inl same ↦ roles_visible (hidden number) r this.1 f place made (subst (λ (j : Inclusion). Makes j f place made) (sym same) makes) g here
+          | inr later ↦ elim (Contains-cons_cases (inclusion.Concepts (basic.Some (hidden_inverse number)) (basic.Concept c)) (encode (suc number) rest) i later) [
+            | inl same ↦ concepts_visible (basic.Some (hidden_inverse number)) (basic.Concept c) this.2 f place made (subst (λ (j : Inclusion). Makes j f place made) (sym same) makes) g here
+            | inr later ↦ made_visible (suc number) rest (All-tail (IsDeclaredInclusion concepts roles) (inclusion.Qualified b r c) rest declared) i later f place made makes g here
           ]
+        ]
       ]
 
   -- a fact over individuals that a run of the encoding has is declared

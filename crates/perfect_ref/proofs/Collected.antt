@@ -1,10 +1,9 @@
 -- Sets and lists of queries that are collected from others.
 use Rattle.std.proofs.Common.{◌≡◌, ℕ, ◌+◌, ◌<◌, ◌≤◌, Bool, true, false, cond, List, [], ◌∷◌, ◌++◌, length, refl, sym, ◌∙◌, ap, subst, arith, rules, inl, inr, append_assoc}
 use Rattle.std.specs.Prelude.{◌⊎◌, ◌≢◌, Some, slice_get}
-use Rattle.std.specs.List.{All, AllPairs, Contains, list_any}
+use Rattle.std.specs.List.{AllPairs, Contains, list_any}
 use Rattle.std.proofs.lemmas.Bool.{cases_lt}
-use Rattle.std.proofs.lemmas.List.{append-nil}
-use Rattle.std.proofs.lemmas.List.Elements.{All-nil, All-push, All-contains, Contains-append_left, Contains-append_right, Contains-append_cases, Contains-push, Contains-push_cases}
+use Rattle.std.proofs.lemmas.List.Elements.{All-contains, Contains-append_left, Contains-push, Contains-push_cases}
 use Rattle.std.proofs.lemmas.Map.Views.{Contains-from_any}
 use Rattle.indexmap.specs.IndexSet.{insert_key}
 use Rattle.dl_syntax.specs.declared.ontology.Inclusion.{Inclusion}
@@ -12,7 +11,7 @@ use Rattle.dl_syntax.specs.declared.queries.Cq.{Cq}
 use Rattle.dl_syntax.specs.contracts.queries.CqPartialEq.TheImpl as cq
 use Rattle.dl_syntax.specs.Exact.{IsExact}
 use Rattle.dl_syntax.proofs.Exactness.{queries_exact}
-use Rattle.dl_syntax.proofs.AllByCons.{Contains-none, Contains-first, Contains-later, Contains-single, Contains-cons_cases, All-from_contains, AllPairs-nil, AllPairs-push, AllPairs-front, AllPairs-across}
+use Rattle.dl_syntax.proofs.AllByCons.{Contains-none, Contains-first, Contains-later, Contains-cons_cases, AllPairs-push, AllPairs-front, AllPairs-across}
 use Rattle.perfect_ref.specs.Plain.{IsPlain}
 use Rattle.perfect_ref.specs.Found.{Gains, Absorbs, Filters, none, keep, leave, Somewhere, IsNullReplacement, IsMadeAt}
 
@@ -156,8 +155,8 @@ Absorbs-made roles inclusions found place q old made mid new at empty g a =
     Absorbs-same (λ r. Contains made r × IsPlain roles r) (IsMadeAt roles inclusions found place) mid new
     (λ r both. (q, at, All-contains (Somewhere (IsNullReplacement inclusions q) (length q.body)) g.added r g.sound (subst (λ (rs : List Cq). Contains rs r) whole both.0), both.1))
     (λ r (q', at', taken, plain).
-        let same : q' ≡ q = cc (at, at') in
-        (subst (λ (rs : List Cq). Contains rs r) (sym whole) (g.complete r (subst (λ (z : Cq). Somewhere (IsNullReplacement inclusions z) (length z.body) r) same taken)), plain)) a
+    let same : q' ≡ q = cc (at, at') in
+    (subst (λ (rs : List Cq). Contains rs r) (sym whole) (g.complete r (subst (λ (z : Cq). Somewhere (IsNullReplacement inclusions z) (length z.body) r) same taken)), plain)) a
   where
     whole : made ≡ g.added
     whole = g.order ∙ ap (λ (rs : List Cq). rs ++ g.added) empty

@@ -9,7 +9,7 @@ use Rattle.std.proofs.lemmas.List.Elements.{All-nil, All-cons, All-append, All-w
 use Rattle.dl_syntax.specs.declared.ontology.Inclusion.{Inclusion}
 use Rattle.dl_syntax.specs.declared.queries.Atom.{Atom}
 use Rattle.dl_syntax.specs.declared.queries.Cq.{Cq}
-use Rattle.query_unify.specs.Reach.{Replaces, Reduces, Step, replace, reduce}
+use Rattle.query_unify.specs.Reach.{Replaces, Step, replace, reduce}
 use Rattle.query_unify.specs.Saturation.{MakesNulls}
 use Rattle.worklist.specs.Reach.{Adds}
 use Rattle.perfect_ref.specs.Rules.{IsFor, MakesFor}

@@ -1,13 +1,12 @@
 -- Lists of inclusions by number.
-use Rattle.std.proofs.Common.{◌≡◌, ◌==◌, ℕ, zero, suc, ◌+◌, ◌<◌, ◌≤◌, Bool, true, false, cond, List, [], ◌∷◌, ◌++◌, length, get_or, refl, sym, ◌∙◌, ap, subst, arith, inl, inr, eq-eqb, Vec, Global}
-use Rattle.std.specs.Prelude.{◌⊎◌, ◌↔◌, Option, Some, None}
+use Rattle.std.proofs.Common.{◌≡◌, ◌==◌, ℕ, zero, suc, ◌<◌, ◌≤◌, Bool, true, false, cond, List, [], ◌∷◌, ◌++◌, length, get_or, refl, sym, ◌∙◌, ap, subst, arith, inl, inr, eq-eqb, Vec, Global}
+use Rattle.std.specs.Prelude.{◌⊎◌, Some, None}
 use Rattle.std.specs.List.{All, Contains}
 use Rattle.std.proofs.Math.ListN.{set}
 use Rattle.std.proofs.lemmas.Bool.{eqb-true}
 use Rattle.std.proofs.lemmas.List.Elements.{All-nil, All-weaker, All-contains, Contains-append_left, Contains-push, Contains-push_cases}
 use Rattle.dl_syntax.specs.declared.names.ConceptId.{ConceptId}
 use Rattle.dl_syntax.specs.declared.names.RoleId.{RoleId}
-use Rattle.dl_syntax.specs.declared.ontology.Role.{Role}
 use Rattle.dl_syntax.specs.declared.ontology.Basic.TheVariants as basic
 use Rattle.dl_syntax.specs.declared.ontology.Inclusion.{Inclusion}
 use Rattle.dl_syntax.specs.declared.ontology.Inclusion.TheVariants as inclusion
@@ -18,7 +17,7 @@ use Rattle.dl_syntax.specs.declared.queries.Atom.TheVariants as atom
 use Rattle.dl_syntax.specs.declared.queries.Cq.{Cq}
 use Rattle.dl_syntax.proofs.AllByCons.{Contains-none, All-from_contains}
 use Rattle.dl_syntax.specs.Encode.{IsUnqualified}
-use Rattle.query_unify.specs.Table.{role_atom, Becomes}
+use Rattle.query_unify.specs.Table.{Becomes}
 use Rattle.query_unify.specs.Saturation.{MakesNulls}
 use Rattle.perfect_ref.specs.declared.rules.Side.{Side}
 use Rattle.perfect_ref.specs.declared.rules.Side.TheVariants as side

@@ -1,28 +1,22 @@
 -- What the worklist reaches is what rewriting reaches, and the core of it.
-use Rattle.std.proofs.Common.{◌≡◌, ℕ, zero, suc, ◌<◌, List, [], ◌∷◌, length, get_or, refl, sym, ◌∙◌, ap, subst, arith, inl, inr}
-use Rattle.std.specs.Prelude.{◌⊎◌, ◌≢◌, ◌↔◌, Some, slice_get, Result, IfOk, Ok, Err}
-use Rattle.std.specs.List.{All, AllPairs, Contains}
-use Rattle.std.proofs.Math.ListN.{set}
+use Rattle.std.proofs.Common.{◌≡◌, ℕ, zero, suc, List, [], ◌∷◌, length, refl, sym, ◌∙◌, ap, subst, inl, inr}
+use Rattle.std.specs.Prelude.{◌⊎◌, ◌≢◌, ◌↔◌, Some, Result, IfOk, Ok, Err}
+use Rattle.std.specs.List.{AllPairs, Contains}
 use Rattle.std.proofs.lemmas.Option.{slice_get-get_or, slice_get_within, get_or_from_slice_get}
 use Rattle.std.proofs.lemmas.List.Elements.{All-weaker, All-contains, All-map}
-use Rattle.dl_syntax.specs.declared.names.IndId.{IndId}
-use Rattle.dl_syntax.specs.declared.facts.Fact.{Fact}
 use Rattle.dl_syntax.specs.declared.ontology.Inclusion.{Inclusion}
 use Rattle.dl_syntax.specs.declared.queries.Atom.{Atom}
 use Rattle.dl_syntax.specs.declared.queries.Atom.TheVariants as atom
 use Rattle.dl_syntax.specs.declared.queries.Cq.{Cq}
-use Rattle.dl_syntax.specs.Queries.{IsQuery}
-use Rattle.dl_syntax.specs.Match.{Certain}
 use Rattle.dl_syntax.proofs.AllByCons.{Contains-first, Contains-single, All-from_contains}
 use Rattle.query_unify.specs.Substitution.{Substitution, applied_atom, applied_query}
-use Rattle.query_unify.specs.Normal.{first_places, same_atom, numbering, normalise}
-use Rattle.query_unify.specs.Reach.{Replaces, Step, Steps, stay, go, Reach}
-use Rattle.query_unify.specs.Saturation.{MakesNulls, IsCore, begin, made}
+use Rattle.query_unify.specs.Normal.{same_atom, numbering, normalise}
+use Rattle.query_unify.specs.Reach.{Step, Steps, stay, go, Reach}
+use Rattle.query_unify.specs.Saturation.{IsCore, begin, made}
 use Rattle.query_unify.proofs.NormalForm.{All-first_places}
 use Rattle.worklist.specs.Reach.{Walk, Reaches, IsClosure, ReachesMore}
-use Rattle.perfect_ref.specs.Plain.{Encoded, IsPlainAtom, IsPlain, Reachable, PlainReachable, PlainCore, Lists, HoldsOfMore}
-use Rattle.perfect_ref.specs.Laws.{SomeGives}
-use Rattle.perfect_ref.specs.Found.{Absorbs, Filters, Somewhere, IsNullReplacement, IsMadeAt, IsCoreOf}
+use Rattle.perfect_ref.specs.Plain.{IsPlainAtom, IsPlain, PlainReachable, PlainCore, Lists, HoldsOfMore}
+use Rattle.perfect_ref.specs.Found.{Filters, Somewhere, IsMadeAt, IsCoreOf}
 use Rattle.perfect_ref.proofs.Collected.{Filters-sound, Filters-complete, Filters-distinct}
 
 Walk-Steps : (inclusions : List Inclusion) (x : Cq) (n : ℕ) (y : Cq) → Walk (Step inclusions) x n y → Steps inclusions x y

@@ -1,12 +1,12 @@
 -- The rewriting gives exactly the certain answers.
-use Rattle.std.specs.Prelude.{◌≡◌, ◌↔◌, ℕ, List, length, map}
-use Rattle.std.specs.List.{All, Contains}
+use Rattle.std.specs.Prelude.{◌≡◌, ◌↔◌, List, length, map}
+use Rattle.std.specs.List.{Contains}
 use Rattle.dl_syntax.specs.declared.names.IndId.{IndId}
 use Rattle.dl_syntax.specs.declared.facts.Element.TheVariants.{Ind as ind_element}
 use Rattle.dl_syntax.specs.declared.facts.Fact.{Fact}
 use Rattle.dl_syntax.specs.declared.queries.Cq.{Cq}
 use Rattle.dl_syntax.specs.Facts.{HasNoNull}
-use Rattle.dl_syntax.specs.Declaring.{IsDeclaredFact, IsDeclaredInclusion}
+use Rattle.dl_syntax.specs.Declaring.{IsDeclaredFact}
 use Rattle.dl_syntax.specs.Queries.{IsQuery, IsDeclaredQuery}
 use Rattle.dl_syntax.specs.Ontology.{Declared}
 use Rattle.dl_syntax.specs.Encode.{IsOver, IsReached}

@@ -76,11 +76,7 @@ fn plain_members(alloc: Global, roles: u32, found: IndexSet<Cq>) -> Result<Vec<C
 }
 
 /// Moves the queries that name no hidden role into the set.
-fn absorb_plain(
-    roles: u32,
-    made: &mut Vec<Cq>,
-    core: &mut IndexSet<Cq>,
-) -> Result<(), Memory>
+fn absorb_plain(roles: u32, made: &mut Vec<Cq>, core: &mut IndexSet<Cq>) -> Result<(), Memory>
     ensures emptied { OnOk result (made.new.items ≡ []) }
     ensures absorbs { OnOk result (Absorbs (λ q. Contains made.old.items q × IsPlain roles q) core.old.keys core.new.keys) }
 {

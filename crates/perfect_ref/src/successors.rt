@@ -122,12 +122,7 @@ fn push_everywhere(rules: &Rules, cq: &Cq, out: &mut Vec<Cq>) -> Result<(), Memo
 }
 
 /// Adds what the inclusions that make nulls make of the query at the place.
-fn push_with_null_at(
-    rules: &Rules,
-    cq: &Cq,
-    place: u16,
-    out: &mut Vec<Cq>,
-) -> Result<(), Memory>
+fn push_with_null_at(rules: &Rules, cq: &Cq, place: u16, out: &mut Vec<Cq>) -> Result<(), Memory>
     requires query { IsQuery cq.now }
     requires within { place < length cq.now.body }
     ensures { OnOk result (Gains (IsNullReplacement rules.now cq.now place) out.old.items out.new.items) }

@@ -5,6 +5,8 @@ pub mod laws;
 mod limits;
 mod normal;
 mod steps;
+#[cfg(test)]
+mod tests;
 mod unifier;
 
 pub use limits::is_query;

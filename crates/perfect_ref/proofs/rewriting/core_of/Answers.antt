@@ -1,4 +1,4 @@
-use Rattle.std.proofs.Common.{◌≡◌, ℕ, ◌∷◌, [], List, length, refl, subst, arith}
+use Rattle.std.proofs.Common.{◌≡◌, ℕ, ◌∷◌, [], length, refl, subst, arith}
 use Rattle.std.proofs.lemmas.Option.{slice_get_read}
 use Rattle.perfect_ref.specs.Found.{Absorbs, Somewhere, IsMadeAt}
 use Rattle.perfect_ref.proofs.Collected.{Absorbs-next, Absorbs-made}

@@ -1,4 +1,4 @@
-use Rattle.std.proofs.Common.{◌≡◌, ◌∷◌, [], ◌++◌, List, sym, ◌∙◌, ap, subst}
+use Rattle.std.proofs.Common.{◌∷◌, [], ◌++◌, List, sym, ◌∙◌, ap, subst}
 use Rattle.dl_syntax.specs.declared.queries.Cq.{Cq}
 use Rattle.perfect_ref.specs.Plain.{IsPlain}
 use Rattle.perfect_ref.specs.Found.{Filters, none, keep, leave}

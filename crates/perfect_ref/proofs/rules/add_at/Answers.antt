@@ -1,5 +1,4 @@
-use Rattle.std.proofs.Common.{◌++◌, ◌∷◌, [], List, ◌∙◌, ap}
-use Rattle.dl_syntax.specs.declared.ontology.Inclusion.{Inclusion}
+use Rattle.std.proofs.Common.{◌++◌, ◌∷◌, [], ◌∙◌, ap}
 use Rattle.perfect_ref.proofs.Indexed.{listed-put}
 use Rattle.perfect_ref.proofs.rules.add_at.Goals as goal
 

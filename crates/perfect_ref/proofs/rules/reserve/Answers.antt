@@ -1,4 +1,4 @@
-use Rattle.std.proofs.Common.{List, ◌∙◌, ap}
+use Rattle.std.proofs.Common.{◌∙◌, ap}
 use Rattle.perfect_ref.specs.Rules.{listed}
 use Rattle.perfect_ref.proofs.Indexed.{Lists, listed-push}
 use Rattle.perfect_ref.proofs.rules.reserve.Goals as goal

@@ -1,4 +1,4 @@
-use Rattle.perfect_ref.specs.Found.{Gains, Somewhere, IsReplacement, IsNullReplacement}
+use Rattle.perfect_ref.specs.Found.{Gains, Somewhere, IsReplacement}
 use Rattle.perfect_ref.proofs.successors.push_everywhere.Given as goal
 
 abbrev pub invariant-loop-place : goal.invariant-loop-place

@@ -1,4 +1,3 @@
-use Rattle.std.proofs.Common.{◌≡◌, ℕ, List}
 use Rattle.dl_syntax.specs.declared.queries.Cq.{Cq}
 use Rattle.query_unify.specs.Reach.{Reduces}
 use Rattle.query_unify.proofs.OneResult.{reduce_has_one_result}

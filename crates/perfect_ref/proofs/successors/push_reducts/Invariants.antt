@@ -1,4 +1,3 @@
-use Rattle.query_unify.specs.Reach.{Reduces}
 use Rattle.perfect_ref.specs.Found.{Gains, Somewhere, IsReductAt}
 use Rattle.perfect_ref.proofs.successors.push_reducts.Given as goal
 

@@ -1,5 +1,5 @@
 use Rattle.query_unify.specs.Reach.{Reduces}
-use Rattle.perfect_ref.specs.Found.{Gains, Somewhere, IsReductAt}
+use Rattle.perfect_ref.specs.Found.{Gains, Somewhere}
 use Rattle.perfect_ref.proofs.successors.push_reducts_at.Given as goal
 
 abbrev pub invariant-loop-first : goal.invariant-loop-first

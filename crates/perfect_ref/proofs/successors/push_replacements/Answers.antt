@@ -1,4 +1,4 @@
-use Rattle.std.proofs.Common.{◌≡◌, ℕ, length, arith}
+use Rattle.std.proofs.Common.{arith}
 use Rattle.std.proofs.lemmas.Option.{slice_get-get_or}
 use Rattle.perfect_ref.proofs.Gained.{ByNumber, Gains-start, Gains-next, Gains-number, Gains-list}
 use Rattle.perfect_ref.proofs.successors.push_replacements.Goals as goal

@@ -2,7 +2,7 @@ use Rattle.std.proofs.Common.{◌≡◌, List, ◌∙◌, sym, ap, subst}
 use Rattle.dl_syntax.specs.declared.ontology.Inclusion.{Inclusion}
 use Rattle.dl_syntax.specs.declared.queries.Atom.{Atom}
 use Rattle.perfect_ref.specs.Rules.{listed, IsNullMakers}
-use Rattle.perfect_ref.proofs.Indexed.{Lists, null_makers-concept, null_makers-role}
+use Rattle.perfect_ref.proofs.Indexed.{Lists, null_makers-role}
 use Rattle.perfect_ref.proofs.rules.Rules.null_makers.Goals as goal
 
 of_parts : (inclusions inclusions' : List Inclusion) (a a' : Atom) (list list' : List Inclusion) → inclusions ≡ inclusions' → a' ≡ a → list' ≡ list → IsNullMakers inclusions a list → IsNullMakers inclusions' a' list'
