@@ -1,0 +1,11 @@
+mod Runs
+mod Aligning
+mod Numbers
+mod Views
+mod Renamings
+mod Combinations
+mod Ranks
+mod Counting
+mod Substitutions
+mod Spreads
+mod Widening

@@ -1,0 +1,140 @@
+-- Links numbered anew.
+use Rattle.std.proofs.Common.{◌≡◌, ℕ, zero, suc, ◌+◌, ◌^◌, ◌<◌, ◌≤◌, Bool, true, false, cond, List, [], ◌∷◌, ◌++◌, length, take, get_or, refl, sym, ◌∙◌, ap, subst, arith, inl, inr, nat_eq, length-append}
+use Rattle.std.specs.Prelude.{◌≢◌, ◌⊎◌, Some, slice_get, slice_index, slice_index_or}
+use Rattle.std.specs.List.{list_any}
+use Rattle.std.specs.Cmp.Lexicographic.{pointwise, same_text}
+use Rattle.std.proofs.lemmas.Bool.{cases_lt}
+use Rattle.std.proofs.lemmas.List.{take_more, get_or_append_left, get_or_default, take_all}
+use Rattle.std.proofs.Math.Seq.{get_or-append_seam}
+use Rattle.std.proofs.lemmas.Option.{slice_get-get_or, slice_get_within, get_or_from_slice_get}
+use Rattle.formula_store.specs.Interned.{interned, AreDistinct}
+use Rattle.formula_store.proofs.Chains.{is_chain, slice_get-interned}
+use Rattle.answer_tables.specs.declared.run.Run.{Run}
+use Rattle.answer_tables.specs.Runs.{link_at, end_from, RiseFrom, NamedBelow, Extended}
+use Rattle.answer_tables.specs.Renaming.{ArePlaces, AreRenamed}
+use Rattle.answer_tables.specs.Table.{AreRuns, AreUsed, IsTable, chain_at, view_of}
+use Rattle.answer_tables.proofs.Runs.{run_at, Rest, Rest-start, Rest-here, Rest-above, Rest-next, Rest-end, link_at-named}
+use Rattle.answer_tables.proofs.Views.{view_same}
+
+-- the runs so far, renamed
+pub record Renaming (places : List ℕ) (runs new : List Run) (i : ℕ) : Type 0 where
+  pub rise : RiseFrom 0 new
+  pub rest : Rest runs i (end_from 0 new) (end_from 0 runs)
+  pub same : (n : ℕ) → n < end_from 0 new → link_at new n ≡ slice_index places (link_at runs n)
+  pub named : (limit : ℕ) → ((k : ℕ) → k < length places → slice_index places k < limit) → NamedBelow limit new
+
+pub Renaming-start : (places : List ℕ) (runs new : List Run) → RiseFrom 0 runs → new ≡ [] → Renaming places runs new 0
+Renaming-start places runs new rise none = subst (λ (xs : List Run). Renaming places runs xs 0) (sym none) (record {
+  rise = tt;
+  rest = Rest-start runs (end_from 0 runs) rise refl;
+  same = λ n below. absurd (omega (arith, below));
+  named = λ limit all k d within. absurd (omega (arith, within));
+})
+
+pub Renaming-step : (places : List ℕ) (runs new new' : List Run) (i : ℕ) → NamedBelow (length places) runs → Renaming places runs new i → i < length runs → Extended new (record { end = (run_at runs i).end; link = slice_index places (run_at runs i).link }) new' → Renaming places runs new' (i + 1)
+Renaming-step places runs new new' i all renaming within extended = record {
+  rise = extended.rise;
+  rest = subst (λ (e : ℕ). Rest runs (i + 1) e (end_from 0 runs)) (sym extended.ends) (Rest-next runs i (end_from 0 new) (end_from 0 runs) (run_at runs i).end renaming.rest within refl);
+  same = λ n below. same n (subst (λ (e : ℕ). n < e) extended.ends below) (cases_lt n (end_from 0 new));
+  named = λ limit small. extended.named limit (renaming.named limit small) (small (run_at runs i).link (all i (record { end = 0; link = 0 }) within));
+}
+  where
+    same : (n : ℕ) → n < (run_at runs i).end → (n < end_from 0 new) ⊎ (end_from 0 new ≤ n) → link_at new' n ≡ slice_index places (link_at runs n)
+    same n below (inl early) = extended.before n early ∙ renaming.same n early
+    same n below (inr late) = extended.since n late below ∙ ap (slice_index places) (sym (Rest-here runs i (end_from 0 new) (end_from 0 runs) n renaming.rest within late below))
+
+pub AreRenamed-end : (places : List ℕ) (runs new : List Run) (i : ℕ) → Renaming places runs new i → length runs ≤ i → AreRenamed places runs new
+AreRenamed-end places runs new i renaming past =
+    let ends : end_from 0 new ≡ end_from 0 runs = Rest-end runs i (end_from 0 new) (end_from 0 runs) renaming.rest past in
+    record {
+      rise = renaming.rise;
+      ends = ends;
+      same = λ n below. renaming.same n (omega (arith, below, ends));
+      named = renaming.named;
+    }
+
+-- one more link among those that were given
+one_place : (once : List (List ℕ)) (p q : ℕ) (x : List ℕ) → AreDistinct once → slice_get once p ≡ Some x → slice_get once q ≡ Some x → p ≡ q
+one_place once p q x distinct at_p at_q = go (cases_lt p q) (cases_lt q p)
+  where
+    same : get_or once p x ≡ get_or once q x
+    same = get_or_from_slice_get once p x x at_p ∙ sym (get_or_from_slice_get once q x x at_q)
+
+    go : (p < q) ⊎ (q ≤ p) → (q < p) ⊎ (p ≤ q) → p ≡ q
+    go (inl less) h = absurd (distinct p q x less (slice_get_within once q x at_q) same)
+    go (inr le) (inl less) = absurd (distinct q p x less (slice_get_within once p x at_p) (sym same))
+    go (inr le) (inr ge) = omega (arith, le, ge)
+
+pub ArePlaces-start : (links once : List (List ℕ)) (places : List ℕ) → links ≡ [] → once ≡ [] → places ≡ [] → ArePlaces links once places
+ArePlaces-start links once places no_links no_once no_places = record {
+  many = ap (λ (xs : List ℕ). length xs) no_places ∙ sym (ap (λ (xs : List (List ℕ)). length xs) no_links);
+  same = λ i d within. absurd (omega (arith, within, ap (λ (xs : List (List ℕ)). length xs) no_links));
+  used = λ p within. absurd (omega (arith, within, ap (λ (xs : List (List ℕ)). length xs) no_once));
+}
+
+pub ArePlaces-more : (links once once' : List (List ℕ)) (places places' : List ℕ) (x : List ℕ) (p : ℕ) → AreDistinct once' → once' ≡ interned once x → slice_get once' p ≡ Some x → places' ≡ places ++ p ∷ [] → ArePlaces links once places → ArePlaces (links ++ x ∷ []) once' places'
+ArePlaces-more links once once' places places' x p distinct grown at_p more are = record {
+  many = ap (λ (xs : List ℕ). length xs) more ∙ omega (arith, length-append places (p ∷ []), length-append links (x ∷ []), are.many);
+  same = λ i d within. same i d (omega (arith, within, length-append links (x ∷ []))) (cases_lt i (length links));
+  used = λ q within. used q within (list_any (is_chain x) once) refl;
+}
+  where
+    old_place : (i : ℕ) → i < length links → slice_index places' i ≡ slice_index places i
+    old_place i early = ap (λ (xs : List ℕ). get_or xs i 0) more ∙ get_or_append_left places (p ∷ []) 0 i (omega (arith, early, are.many))
+
+    new_place : slice_index places' (length links) ≡ p
+    new_place = ap (λ (xs : List ℕ). get_or xs (length links) 0) more ∙ ap (λ (k : ℕ). get_or (places ++ p ∷ []) k 0) (sym are.many) ∙ get_or-append_seam places p [] 0
+
+    same : (i : ℕ) (d : List ℕ) → i < length links + 1 → (i < length links) ⊎ (length links ≤ i) → slice_get once' (slice_index places' i) ≡ Some (slice_index_or (links ++ x ∷ []) i d)
+    same i d within (inl early) =
+        ap (slice_get once') (old_place i early) ∙ ap (λ (cs : List (List ℕ)). slice_get cs (slice_index places i)) grown
+        ∙ slice_get-interned once x (slice_index places i) (slice_index_or links i d) (are.same i d early)
+        ∙ ap Some (sym (get_or_append_left links (x ∷ []) d i early))
+    same i d within (inr late) =
+        let last : i ≡ length links = omega (arith, within, late) in
+        ap (λ (k : ℕ). slice_get once' (slice_index places' k)) last ∙ ap (slice_get once') new_place ∙ at_p
+        ∙ ap Some (sym (ap (λ (k : ℕ). get_or (links ++ x ∷ []) k d) last ∙ get_or-append_seam links x [] d))
+
+    from_old : (q : ℕ) → q < length once → (i : ℕ) × (i < length (links ++ x ∷ [])) × (slice_index places' i ≡ q)
+    from_old q early =
+        let found = are.used q early in
+        (found.0, (let l = found.1 in omega (arith, l, length-append links (x ∷ []))), old_place found.0 found.1 ∙ found.2)
+
+    from_new : (q : ℕ) → slice_get once' q ≡ Some x → (i : ℕ) × (i < length (links ++ x ∷ [])) × (slice_index places' i ≡ q)
+    from_new q at_q = (length links, omega (arith, length-append links (x ∷ [])), new_place ∙ one_place once' p q x distinct at_p at_q)
+
+    used : (q : ℕ) → q < length once' → (b : Bool) → list_any (is_chain x) once ≡ b → (i : ℕ) × (i < length (links ++ x ∷ [])) × (slice_index places' i ≡ q)
+    used q within true there =
+        let stays : once' ≡ once = grown ∙ ap (λ (b : Bool). cond b once (once ++ x ∷ [])) there in
+        from_old q (omega (arith, within, ap (λ (cs : List (List ℕ)). length cs) stays))
+    used q within false absent = elim (cases_lt q (length once)) [
+      | inl early ↦ from_old q early
+      | inr late ↦
+          let pushed : once' ≡ once ++ x ∷ [] = grown ∙ ap (λ (b : Bool). cond b once (once ++ x ∷ [])) absent in
+          let last : q ≡ length once = omega (arith, within, late, ap (λ (cs : List (List ℕ)). length cs) pushed, length-append once (x ∷ [])) in
+          from_new q (slice_get-get_or once' q x within ∙ ap Some (ap (λ (cs : List (List ℕ)). get_or cs q x) pushed ∙ ap (λ (k : ℕ). get_or (once ++ x ∷ []) k x) last ∙ get_or-append_seam once x [] x))
+    ]
+
+-- a table of the renamed runs
+module _ (slots arity : ℕ) (links once : List (List ℕ)) (places : List ℕ) (runs new : List Run) (are : AreRuns slots arity links runs) (used : AreUsed (slots ^ arity) (length links) runs)
+    (distinct : AreDistinct once) (are_places : ArePlaces links once places) (renamed : AreRenamed places runs new) where
+  small : (n : ℕ) → n < slots ^ arity → link_at runs n < length links
+  small n below = link_at-named 0 runs (length links) n are.named (omega arith) (omega (arith, below, are.ends))
+
+  place_below : (i : ℕ) → i < length places → slice_index places i < length once
+  place_below i within = slice_get_within once (slice_index places i) (slice_index_or links i []) (are_places.same i [] (omega (arith, within, are_places.many)))
+
+  pub IsTable-renamed : IsTable slots arity once new
+  IsTable-renamed = record {
+    are = record { rise = renamed.rise; ends = renamed.ends ∙ are.ends; few = are.few; named = renamed.named (length once) place_below };
+    used = λ p within.
+        let i = are_places.used p within in
+        let n = used i.0 i.1 in
+        (n.0, n.1, renamed.same n.0 (let l = n.1 in omega (arith, l, are.ends)) ∙ ap (slice_index places) n.2 ∙ i.2);
+    distinct = distinct;
+  }
+
+  pub view_renamed : view_of slots arity once new ≡ view_of slots arity links runs
+  view_renamed = view_same slots arity once links new runs (λ n below.
+      ap (λ (k : ℕ). slice_index_or once k []) (renamed.same n (omega (arith, below, are.ends)))
+      ∙ get_or_from_slice_get once (slice_index places (link_at runs n)) (slice_index_or links (link_at runs n) []) [] (are_places.same (link_at runs n) [] (small n below)))

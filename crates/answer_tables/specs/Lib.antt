@@ -1,0 +1,10 @@
+pub mod Runs
+pub mod Joint
+pub mod Numbering
+pub mod Tuples
+pub mod Table
+pub mod Renaming
+pub mod Combining
+pub mod Counts
+pub mod Substituting
+pub mod Spreading

@@ -1,0 +1,132 @@
+//! Two tables combined tuple by tuple.
+
+ghost use Rattle.std.specs.Prelude.{◌≡◌, ◌||◌, ◌&&◌, List, IfOk, length};
+ghost use Rattle.std.specs.List.{All, Contains};
+ghost use Rattle.dl_syntax.specs.declared.names.IndId.{IndId};
+ghost use Rattle.antichains.specs.Sets.{holds};
+ghost use Rattle.antichains.specs.Chain.{IsMinimal};
+ghost use Rattle.formula_store.specs.Interned.{Extends};
+ghost use Rattle.answer_tables.specs.Tuples.{IsTuple};
+ghost use Rattle.answer_tables.specs.Table.{at};
+ghost use Rattle.answer_tables.specs.Combining.{test_of, Combines, AreCombined, JointsWithin, LinksAreIn};
+
+use crate::align::{Joint, align};
+use crate::table::Table;
+use formula_store::{Link, Store};
+use std::alloc::{AllocError, Global};
+
+/// How two chains become one.
+#[derive(Clone, Copy)]
+pub enum Operation {
+    Or,
+    And,
+}
+
+/// The link of the combined chain.
+fn combined_link(
+    operation: Operation,
+    a: &Link,
+    b: &Link,
+    store: &mut Store,
+) -> Result<Link, AllocError>
+    ensures link { IfOk result (Combines (test_of operation) a.now b.now) }
+    ensures stored { IfOk result (Contains store.new) }
+    ensures grown { Extends store.old store.new }
+{
+    match operation {
+        Operation::Or => store.either(a, b),
+        Operation::And => store.both(a, b),
+    }
+}
+
+/// The link of each joint.
+fn combined_links(
+    alloc: Global,
+    operation: Operation,
+    a: &[Link],
+    b: &[Link],
+    joints: &[Joint],
+    store: &mut Store,
+) -> Result<Vec<Link>, AllocError>
+    requires { JointsWithin (length a.now) (length b.now) joints.now }
+    ensures links { IfOk result (λ links. AreCombined (test_of operation) a.now b.now joints.now links.items) }
+    ensures stored { IfOk result (λ links. All (Contains store.new) links.items) }
+    ensures grown { Extends store.old store.new }
+{
+    let mut links = Vec::new(alloc);
+    for joint in joints {
+        let link = combined_link(operation, &a[joint.first], &b[joint.second], store)?;
+        links.push(link)?;
+    }
+    Ok(links)
+}
+
+/// The table of the combined chains.
+fn combine(
+    alloc: Global,
+    operation: Operation,
+    a: &Table,
+    b: &Table,
+    store: &mut Store,
+) -> Result<Table, AllocError>
+    requires slots { a.now.slots ≡ b.now.slots }
+    requires arity { a.now.arity ≡ b.now.arity }
+    ensures slots { IfOk result (λ t. t.slots ≡ a.now.slots) }
+    ensures arity { IfOk result (λ t. t.arity ≡ a.now.arity) }
+    ensures each { IfOk result (λ t. (tuple : List IndId) → IsTuple a.now.slots a.now.arity tuple → Combines (test_of operation) (at a.now tuple) (at b.now tuple) (at t tuple)) }
+    ensures stored { IfOk result (λ t. LinksAreIn t store.new) }
+    ensures grown { Extends store.old store.new }
+{
+    let aligned = align(alloc, a.runs.as_slice(), b.runs.as_slice())?;
+    let links = combined_links(
+        alloc,
+        operation,
+        a.links.as_slice(),
+        b.links.as_slice(),
+        aligned.joints.as_slice(),
+        store,
+    )?;
+    Table::from_parts(
+        alloc,
+        a.slots,
+        a.arity,
+        links.as_slice(),
+        aligned.runs.as_slice(),
+    )
+}
+
+/// The chains that hold where either table's do.
+pub fn combine_or(
+    alloc: Global,
+    a: &Table,
+    b: &Table,
+    store: &mut Store,
+) -> Result<Table, AllocError>
+    requires slots { a.now.slots ≡ b.now.slots }
+    requires arity { a.now.arity ≡ b.now.arity }
+    ensures slots { IfOk result (λ t. t.slots ≡ a.now.slots) }
+    ensures arity { IfOk result (λ t. t.arity ≡ a.now.arity) }
+    ensures each { IfOk result (λ t. (tuple : List IndId) → IsTuple a.now.slots a.now.arity tuple → IsMinimal (λ v. holds (at a.now tuple) v || holds (at b.now tuple) v) (at t tuple)) }
+    ensures stored { IfOk result (λ t. LinksAreIn t store.new) }
+    ensures grown { Extends store.old store.new }
+{
+    combine(alloc, Operation::Or, a, b, store)
+}
+
+/// The chains that hold where both tables' do.
+pub fn combine_and(
+    alloc: Global,
+    a: &Table,
+    b: &Table,
+    store: &mut Store,
+) -> Result<Table, AllocError>
+    requires slots { a.now.slots ≡ b.now.slots }
+    requires arity { a.now.arity ≡ b.now.arity }
+    ensures slots { IfOk result (λ t. t.slots ≡ a.now.slots) }
+    ensures arity { IfOk result (λ t. t.arity ≡ a.now.arity) }
+    ensures each { IfOk result (λ t. (tuple : List IndId) → IsTuple a.now.slots a.now.arity tuple → IsMinimal (λ v. holds (at a.now tuple) v && holds (at b.now tuple) v) (at t tuple)) }
+    ensures stored { IfOk result (λ t. LinksAreIn t store.new) }
+    ensures grown { Extends store.old store.new }
+{
+    combine(alloc, Operation::And, a, b, store)
+}

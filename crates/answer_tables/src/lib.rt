@@ -1,0 +1,19 @@
+//! Tables with a chain for each tuple.
+#![tactic(auto)]
+
+mod align;
+mod combine;
+mod counts;
+mod renaming;
+mod run;
+mod spread;
+mod substitute;
+mod table;
+#[cfg(test)]
+mod tests;
+mod widen;
+
+pub use combine::{combine_and, combine_or};
+pub use counts::from_runs;
+pub use substitute::substitute_all;
+pub use table::{Table, fill};

@@ -1,0 +1,109 @@
+//! The values of a table's nodes put in their places, tuple by tuple.
+
+ghost use Rattle.std.specs.Prelude.{◌≡◌, ◌<◌, ◌^◌, List, IfOk, length, map};
+ghost use Rattle.std.specs.List.{All, Contains};
+ghost use Rattle.dl_syntax.specs.declared.names.IndId.{IndId};
+ghost use Rattle.antichains.specs.Sets.{holds};
+ghost use Rattle.antichains.specs.Chain.{IsMinimal, values_at};
+ghost use Rattle.formula_store.specs.Interned.{Extends};
+ghost use Rattle.answer_tables.specs.Tuples.{IsTuple, number};
+ghost use Rattle.answer_tables.specs.Table.{at};
+ghost use Rattle.answer_tables.specs.Joint.{joint_at};
+ghost use Rattle.answer_tables.specs.Combining.{LinksAreIn};
+ghost use Rattle.answer_tables.specs.Substituting.{HaveShape, Substitutes, TellAll, AreSubstituted, chains_at};
+
+use crate::align::{Aligned, Joint, align};
+use crate::table::Table;
+use formula_store::{Link, Store};
+use std::alloc::{AllocError, Global};
+
+/// All tables at once: where the runs have one number, each table has one chain.
+fn align_all(alloc: Global, table: &Table, values: &[Table]) -> Result<Aligned, AllocError>
+    requires { HaveShape table.now.slots table.now.arity values.now }
+    ensures { IfOk result (λ a. TellAll table.now.slots table.now.arity table.now values.now a.runs.items a.joints.items) }
+{
+    let mut aligned = align(alloc, table.runs.as_slice(), table.runs.as_slice())?;
+    for value in values {
+        aligned = align(alloc, aligned.runs.as_slice(), value.runs.as_slice())?;
+    }
+    Ok(aligned)
+}
+
+/// The chain of each table at the tuple with a number.
+fn value_links(alloc: Global, values: &[Table], rank: u64) -> Result<Vec<Link>, AllocError>
+    requires { All (λ v. rank < v.slots ^ v.arity) values.now }
+    ensures { IfOk result (λ links. (tuple : List IndId) → All (λ v. IsTuple v.slots v.arity tuple × (number v.slots tuple ≡ rank)) values.now → links.items ≡ chains_at values.now tuple) }
+{
+    let mut links = Vec::new(alloc);
+    for value in values {
+        let link = value.at_rank(rank).copy()?;
+        links.push(link)?;
+    }
+    Ok(links)
+}
+
+/// The substituted chain of the tuple with a number.
+fn substituted_link(
+    alloc: Global,
+    table: &Table,
+    values: &[Table],
+    rank: u64,
+    store: &mut Store,
+) -> Result<Link, AllocError>
+    requires shape { HaveShape table.now.slots table.now.arity values.now }
+    requires within { rank < table.now.slots ^ table.now.arity }
+    ensures link { IfOk result (λ l. (tuple : List IndId) → IsTuple table.now.slots table.now.arity tuple → number table.now.slots tuple ≡ rank → Substitutes table.now values.now tuple l) }
+    ensures stored { IfOk result (Contains store.new) }
+    ensures grown { Extends store.old store.new }
+{
+    let row = value_links(alloc, values, rank)?;
+    store.substituted(table.at_rank(rank), row.as_slice())
+}
+
+/// The link of each joint.
+fn substituted_links(
+    alloc: Global,
+    table: &Table,
+    values: &[Table],
+    joints: &[Joint],
+    store: &mut Store,
+) -> Result<Vec<Link>, AllocError>
+    requires shape { HaveShape table.now.slots table.now.arity values.now }
+    requires within { All (λ j. j.rank < table.now.slots ^ table.now.arity) joints.now }
+    ensures links { IfOk result (λ links. AreSubstituted table.now.slots table.now.arity table.now values.now joints.now links.items) }
+    ensures stored { IfOk result (λ links. All (Contains store.new) links.items) }
+    ensures grown { Extends store.old store.new }
+{
+    let mut links = Vec::new(alloc);
+    for joint in joints {
+        let link = substituted_link(alloc, table, values, joint.rank, store)?;
+        links.push(link)?;
+    }
+    Ok(links)
+}
+
+/// Each tuple's chain with the nodes replaced by their values at the tuple: `values[b]` has those
+/// of the node numbered `b`, and a node without a value is false.
+pub fn substitute_all(
+    alloc: Global,
+    table: &Table,
+    values: &[Table],
+    store: &mut Store,
+) -> Result<Table, AllocError>
+    requires { HaveShape table.now.slots table.now.arity values.now }
+    ensures slots { IfOk result (λ t. t.slots ≡ table.now.slots) }
+    ensures arity { IfOk result (λ t. t.arity ≡ table.now.arity) }
+    ensures each { IfOk result (λ t. (tuple : List IndId) → IsTuple table.now.slots table.now.arity tuple → IsMinimal (λ v. holds (at table.now tuple) (values_at (map (λ x. at x tuple) values.now) v)) (at t tuple)) }
+    ensures stored { IfOk result (λ t. LinksAreIn t store.new) }
+    ensures grown { Extends store.old store.new }
+{
+    let aligned = align_all(alloc, table, values)?;
+    let links = substituted_links(alloc, table, values, aligned.joints.as_slice(), store)?;
+    Table::from_parts(
+        alloc,
+        table.slots,
+        table.arity,
+        links.as_slice(),
+        aligned.runs.as_slice(),
+    )
+}

@@ -1,0 +1,156 @@
+ghost use Rattle.std.specs.Prelude.{◌≡◌, ◌≤◌, ◌<◌, ◌^◌, ◌↔◌, ℕ, List, IfOk, MatchOption, length};
+ghost use Rattle.std.specs.List.{All, Contains};
+ghost use Rattle.formula_store.specs.Interned.{AreDistinct};
+ghost use Rattle.dl_syntax.specs.declared.names.IndId.{IndId};
+ghost use Rattle.answer_tables.specs.Tuples.{IsTuple, number};
+ghost use Rattle.answer_tables.specs.Table.{Chains, AreRuns, AreUsed, HasChain, at, view_of};
+
+use crate::renaming::{copies, each_once, renamed};
+use crate::run::{Run, link_of};
+use dl_syntax::IndId;
+use formula_store::Link;
+use std::alloc::{AllocError, Global};
+use std::marker::Model;
+
+/// A chain for each tuple of so many individuals below a number of slots.
+#[derive(Drop)]
+pub struct Table {
+    pub(crate) slots: u32,
+    pub(crate) arity: u8,
+    pub(crate) links: Vec<Link>,
+    pub(crate) runs: Vec<Run>,
+}
+
+impl Model for Table {
+    ghost use Rattle.answer_tables.specs.Table.{Chains, IsTable, view_of};
+
+    ghost Value = { Chains };
+
+    ghost view = { λ t. view_of t.slots t.arity t.links.items t.runs.items };
+
+    ghost invariant = { λ t. IsTable t.slots t.arity t.links.items t.runs.items };
+}
+
+/// How many tuples come before this one.
+fn number_of(slots: u32, tuple: &[IndId]) -> u64
+    requires below { All (λ i. i.0 < slots) tuple.now }
+    requires few { slots ^ length tuple.now ≤ 2 ^ 60 }
+    ensures { result ≡ number slots tuple.now }
+{
+    let mut number = 0;
+    for individual in tuple {
+        number = number * slots as u64 + individual.0 as u64;
+    }
+    number
+}
+
+/// How many tuples there are.
+pub fn tuple_count(slots: u32, arity: u8) -> u64
+    requires { slots ^ arity ≤ 2 ^ 60 }
+    ensures { result ≡ slots ^ arity }
+{
+    (slots as u64).pow(arity as u32)
+}
+
+/// The same chain for each tuple.
+pub fn fill(alloc: Global, slots: u32, arity: u8, link: &Link) -> Result<Table, AllocError>
+    requires { slots ^ arity ≤ 2 ^ 60 }
+    ensures slots { IfOk result (λ t. t.slots ≡ slots) }
+    ensures arity { IfOk result (λ t. t.arity ≡ arity) }
+    ensures same { IfOk result (λ t. (tuple : List IndId) → IsTuple slots arity tuple → at t tuple ≡ link.now) }
+{
+    let end = tuple_count(slots, arity);
+    if end == 0 {
+        return Table::from_parts(alloc, slots, arity, &[], &[]);
+    }
+    let links = [link.copy()?];
+    Table::from_parts(alloc, slots, arity, &links, &[Run { end, link: 0 }])
+}
+
+impl Table {
+    /// The table of runs over all tuples.
+    pub fn from_parts(
+        alloc: Global,
+        slots: u32,
+        arity: u8,
+        links: &[Link],
+        runs: &[Run],
+    ) -> Result<Table, AllocError>
+        requires are { AreRuns slots arity links.now runs.now }
+        requires used { AreUsed (slots ^ arity) (length links.now) runs.now }
+        ensures { IfOk result (λ t. t ≡ view_of slots arity links.now runs.now) }
+    {
+        let once = each_once(alloc, links)?;
+        let runs = renamed(alloc, runs, once.places.as_slice())?;
+        Ok(Table {
+            slots,
+            arity,
+            links: once.links,
+            runs,
+        })
+    }
+
+    /// How many individuals a place of a tuple may have.
+    pub fn slots(&self) -> u32
+        ensures { result ≡ self.now.slots }
+    {
+        self.slots
+    }
+
+    /// How many individuals a tuple has.
+    pub fn arity(&self) -> u8
+        ensures { result ≡ self.now.arity }
+    {
+        self.arity
+    }
+
+    /// The chain of a tuple.
+    pub fn get(&self, tuple: &[IndId]) -> &Link
+        requires { IsTuple self.now.slots self.now.arity tuple.now }
+        ensures { result.now ≡ at self.now tuple.now }
+    {
+        let rank = number_of(self.slots, tuple);
+        &self.links[link_of(self.runs.as_slice(), rank)]
+    }
+
+    /// The chain of the tuple with a number.
+    pub(crate) fn at_rank(&self, rank: u64) -> &Link
+        requires { rank < self.now.slots ^ self.now.arity }
+        ensures { (tuple : List IndId) → IsTuple self.now.slots self.now.arity tuple → number self.now.slots tuple ≡ rank → result.now ≡ at self.now tuple }
+    {
+        &self.links[link_of(self.runs.as_slice(), rank)]
+    }
+
+    /// The default, which is absent exactly where there is no tuple, and is the chain of some tuple.
+    pub fn usual(&self) -> Option<&Link>
+        ensures { MatchOption result (self.now.slots ^ self.now.arity ≡ 0) (λ l. HasChain self.now l.now) }
+    {
+        if self.runs.is_empty() {
+            None
+        } else {
+            Some(self.at_rank(0))
+        }
+    }
+
+    /// A link of each chain of a tuple, each once.
+    pub fn distinct_links(&self) -> &[Link]
+        ensures distinct { AreDistinct result.now }
+        ensures exact { (chain : List ℕ) → Contains result.now chain ↔ HasChain self.now chain }
+    {
+        self.links.as_slice()
+    }
+
+    /// An equal table.
+    pub fn copy(&self) -> Result<Table, AllocError>
+        ensures { IfOk result (λ t. t ≡ self.now) }
+    {
+        let links = copies(*self.links.allocator(), self.links.as_slice())?;
+        let runs = self.runs.clone()?;
+        Ok(Table {
+            slots: self.slots,
+            arity: self.arity,
+            links,
+            runs,
+        })
+    }
+}

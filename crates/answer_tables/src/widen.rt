@@ -1,0 +1,57 @@
+ghost use Rattle.std.specs.Prelude.{◌≡◌, ◌+◌, ◌<◌, ◌≤◌, ◌^◌, List, IfOk};
+ghost use Rattle.dl_syntax.specs.declared.names.IndId.{IndId};
+ghost use Rattle.answer_tables.specs.Tuples.{IsTuple};
+ghost use Rattle.answer_tables.specs.Table.{at};
+ghost use Rattle.answer_tables.specs.Spreading.{narrowed, place_weights};
+
+use crate::spread::spread;
+use crate::table::{Table, tuple_count};
+use std::alloc::{AllocError, Global};
+
+/// The weights of a tuple's places.
+fn weights_of_places(alloc: Global, slots: u32, arity: u8) -> Result<Vec<u64>, AllocError>
+    requires some { 0 < slots }
+    requires few { slots ^ arity ≤ 2 ^ 60 }
+    ensures { IfOk result (λ weights. weights.items ≡ place_weights slots arity) }
+{
+    let mut weights = Vec::new(alloc);
+    let mut places = arity;
+    while places > 0 {
+        places -= 1;
+        weights.push(tuple_count(slots, places))?;
+    }
+    Ok(weights)
+}
+
+impl Table {
+    /// The table over one slot more, in which the new last slot stands for what the old last slot stood for. At tuples of old slots it is as before.
+    pub fn widen(&self, alloc: Global) -> Result<Table, AllocError>
+        requires some { 0 < self.now.slots }
+        requires more { self.now.slots < 4294967295 }
+        requires few { (self.now.slots + 1) ^ self.now.arity ≤ 2 ^ 60 }
+        ensures slots { IfOk result (λ t. t.slots ≡ self.now.slots + 1) }
+        ensures arity { IfOk result (λ t. t.arity ≡ self.now.arity) }
+        ensures each { IfOk result (λ t. (tuple : List IndId) → IsTuple (self.now.slots + 1) self.now.arity tuple → at t tuple ≡ at self.now (narrowed self.now.slots tuple)) }
+        ensures old { IfOk result (λ t. (tuple : List IndId) → IsTuple self.now.slots self.now.arity tuple → at t tuple ≡ at self.now tuple) }
+    {
+        let weights = weights_of_places(alloc, self.slots, self.arity)?;
+        let mut runs = Vec::new(alloc);
+        spread(
+            self.runs.as_slice(),
+            weights.as_slice(),
+            self.arity,
+            self.slots + 1,
+            self.slots - 1,
+            0,
+            0,
+            &mut runs,
+        )?;
+        Table::from_parts(
+            alloc,
+            self.slots + 1,
+            self.arity,
+            self.links.as_slice(),
+            runs.as_slice(),
+        )
+    }
+}
