@@ -10,3 +10,6 @@ mod table;
 
 pub use faults::{QueryFault, QueryKind};
 pub use reading::read_queries;
+
+#[cfg(test)]
+mod tests;
