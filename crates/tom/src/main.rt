@@ -4,6 +4,7 @@
 use edge_io::{StdFiles, StdSink, StdSource};
 use monitor_run::run;
 use std::env;
+use std::io::ErrorKind;
 use std::process::ExitCode;
 
 /// The exit status where the arguments themselves find no memory.
@@ -24,10 +25,15 @@ fn main(rt: HostRuntime) -> ExitCode {
     }
 }
 
-/// The words after the program's name.
+/// The words after the program's name, or no word where one isn't UTF-8, since it names no command.
 fn words(rt: &HostRuntime) -> Option<Vec<String>> {
     let mut words = Vec::new(rt.alloc());
-    for word in env::args(rt).ok()?.skip(1) {
+    let args = match env::args(rt) {
+        Ok(args) => args,
+        Err(error) if error.kind() == ErrorKind::InvalidData => return Some(words),
+        Err(_) => return None,
+    };
+    for word in args.skip(1) {
         words.push(word).ok()?;
     }
     Some(words)
