@@ -1,5 +1,5 @@
 -- Where nothing fails a run is done, but for want of memory.
-use Rattle.std.proofs.Common.{◌≡◌, ℕ, ◌+◌, ◌<◌, ◌≤◌, ◌^◌, inl, inr, Option, None, Some, Ok, Err, List, [], ◌∷◌, ◌++◌, length, refl, sym, ◌∙◌, ap, subst, arith, length-append}
+use Rattle.std.proofs.Common.{◌≡◌, ℕ, ◌≤◌, inl, inr, Option, None, Some, Ok, Err, List, [], ◌∷◌, ◌++◌, length, refl, sym, ◌∙◌, ap, subst, arith, length-append}
 use Rattle.std.specs.Prelude.{◌⊎◌}
 use Rattle.dl_syntax.specs.Ontology.{Declared}
 use Rattle.edge_io.specs.Held.{Store, Lacks}
@@ -7,7 +7,6 @@ use Rattle.edge_io.specs.Known.{Takes}
 use Rattle.ontology_reader.specs.Texts.{text_says}
 use Rattle.tcq_reader.specs.Reading.{SaysQueries}
 use Rattle.monitor_core.specs.Setting.{IsPlain}
-use Rattle.monitor_run.specs.declared.ending.Status.{Status}
 use Rattle.monitor_run.specs.declared.ending.Status.TheVariants as status
 use Rattle.monitor_run.specs.declared.ending.Ending.{Ending}
 use Rattle.monitor_run.specs.declared.ending.Ending.TheVariants.{Done, Usage, BadOntology, UnbuiltOntology, BadQueries, UnbuiltQueries, ReadFault, WriteFault, Memory, StreamLimit}

@@ -1,5 +1,5 @@
 -- The monitor's replies tell what the definitions tell.
-use Rattle.std.proofs.Common.{◌≡◌, ℕ, ◌+◌, List, [], ◌∷◌, ◌++◌, length, refl, sym, ◌∙◌, ap, subst, append-nil}
+use Rattle.std.proofs.Common.{◌≡◌, ℕ, ◌+◌, List, [], ◌∷◌, refl, sym, ◌∙◌, ap, subst, append-nil}
 use Rattle.dl_syntax.specs.declared.facts.Fact.{Fact}
 use Rattle.dl_syntax.specs.Rows.{Relation}
 use Rattle.tcq_syntax.specs.Histories.{History, with_snapshot}
@@ -7,7 +7,6 @@ use Rattle.tcq_syntax.specs.Tcq.{Tcq}
 use Rattle.edge_io.specs.Lines.{Item as StreamLine, text, too_long}
 use Rattle.report_text.specs.declared.item.Cause.{Cause}
 use Rattle.report_text.specs.declared.item.Cause.TheVariants.{TooLong, Contradiction}
-use Rattle.report_text.specs.declared.item.Item.{Item}
 use Rattle.report_text.specs.declared.item.Item.TheVariants as item
 use Rattle.snapshot_reader.specs.declared.Form.TheVariants as form
 use Rattle.snapshot_reader.specs.Said.{Said, nothing, says, said}
@@ -19,9 +18,9 @@ use Rattle.monitor_core.specs.Clashes.{IsLeastClash, IsConsistentUnder}
 use Rattle.monitor_core.specs.Setting.{Setting}
 use Rattle.monitor_core.specs.Standing.{setting_of, Stands, Accepts, count_of}
 use Rattle.monitor_run.specs.declared.reply.Reply.{Reply}
-use Rattle.monitor_run.specs.declared.reply.Reply.TheVariants.{Skip, Refused, Accepted}
+use Rattle.monitor_run.specs.declared.reply.Reply.TheVariants.{Skip, Refused}
 use Rattle.monitor_run.specs.Outcome.{skip, refused, accepted, SaidHas}
-use Rattle.monitor_run.specs.Told.{Answered, TellsLine, Told}
+use Rattle.monitor_run.specs.Told.{Answered}
 use Rattle.monitor_run.specs.Replies.{AcceptsLine, IsRefusedFor, all_answers, told_by}
 use Rattle.monitor_run.specs.Serving.{Asked}
 

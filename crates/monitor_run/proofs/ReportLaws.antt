@@ -1,12 +1,12 @@
 -- The laws of reports.
-use Rattle.std.proofs.Common.{◌≡◌, ℕ, List, [], ◌++◌, inl, inr, refl, sym, ◌∙◌, ap, subst, append_assoc}
+use Rattle.std.proofs.Common.{◌≡◌, ℕ, List, ◌++◌, inl, inr, refl, sym, ◌∙◌, ap, subst, append_assoc}
 use Rattle.tcq_syntax.specs.Histories.{History}
 use Rattle.edge_io.specs.Known.{IsFront}
 use Rattle.edge_io.specs.Lines.{Item as StreamLine, items, whole_items}
 use Rattle.report_text.specs.declared.item.Item.{Item}
 use Rattle.monitor_core.specs.Setting.{Setting}
 use Rattle.monitor_run.specs.Told.{Told}
-use Rattle.monitor_run.specs.Report.{heading, text_of, bytes_of, bytes_of_item, end_item, Report, Part}
+use Rattle.monitor_run.specs.Report.{heading, text_of, bytes_of, bytes_of_item, end_item}
 use Rattle.monitor_run.specs.Watching.{IsBeginning}
 use Rattle.monitor_run.specs.ReportLaws.{Parts, OneReport, OnePart, BeginsPart, BeginsWhole, CutShort}
 use Rattle.monitor_run.proofs.Rendering.{bytes-append}

@@ -10,7 +10,7 @@ use Rattle.monitor_run.specs.declared.ending.Ending.{Ending}
 use Rattle.monitor_run.specs.declared.ending.Ending.TheVariants.{Done, Usage, BadOntology, UnbuiltOntology, BadQueries, UnbuiltQueries, ReadFault, WriteFault, Memory, StreamLimit}
 use Rattle.monitor_run.specs.Opening.{AreWatch, IsWatch, Opens, Refuses}
 use Rattle.monitor_run.specs.Watching.{Watched}
-use Rattle.monitor_run.specs.Running.{Outside, IsUntouched, WatchedFiles, RefusedFiles, FilesEnd, ThreeEnd, RunEnds, Says}
+use Rattle.monitor_run.specs.Running.{Outside, IsUntouched, FilesEnd, ThreeEnd, RunEnds, Says}
 
 pub files_watched : (ending : Ending) (o q : List ℕ) (before now : Outside) (setting : Setting) → Opens before.held o q setting → Watched ending setting no_history before.left now.left before.got now.got → (ending ≡ ReadFault → Rose before.read_faults now.read_faults) → (ending ≡ WriteFault → Rose before.write_faults now.write_faults) → FilesEnd ending o q before now
 files_watched Done o q before now setting opens watched read write = record { setting = setting; opens = opens; watched = watched }

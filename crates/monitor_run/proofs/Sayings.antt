@@ -1,21 +1,20 @@
 -- The facts that a line says are of declared names.
-use Rattle.std.proofs.Common.{◌≡◌, ℕ, ◌<◌, List, [], ◌∷◌, ◌++◌, Bool, true, false, cond, Option, None, Some, length, refl, sym, subst, arith}
-use Rattle.std.specs.List.{All, fold, filter_map, cons_option, list_any}
+use Rattle.std.proofs.Common.{◌≡◌, ℕ, ◌<◌, List, [], ◌∷◌, ◌++◌, Bool, true, false, cond, Option, None, Some, length, refl, subst}
+use Rattle.std.specs.List.{fold, filter_map, cons_option, list_any}
 use Rattle.std.specs.Option.{option_map, option_map_or}
 use Rattle.std.specs.Str.{bytes_eq}
-use Rattle.std.specs.Prelude.{position}
 use Rattle.std.proofs.lemmas.List.Elements.{All-nil, All-cons, All-push, All-head, All-tail}
 use Rattle.std.proofs.lemmas.List.Quantifiers.{position-Some}
 use Rattle.dl_syntax.specs.declared.names.Kind.{Kind}
 use Rattle.dl_syntax.specs.declared.names.Kind.TheVariants.{Concept, Role, Individual}
 use Rattle.dl_syntax.specs.declared.facts.Element.{Element}
-use Rattle.dl_syntax.specs.declared.facts.Element.TheVariants.{Ind, Null}
+use Rattle.dl_syntax.specs.declared.facts.Element.TheVariants.{Ind}
 use Rattle.dl_syntax.specs.declared.facts.Fact.{Fact}
 use Rattle.dl_syntax.specs.declared.facts.Fact.TheVariants as fact
 use Rattle.dl_syntax.specs.Ontology.{Declared, names_of}
 use Rattle.snapshot_reader.specs.declared.Form.{Form}
 use Rattle.snapshot_reader.specs.Written.{Written, unary, binary, Line, blank, malformed, writes, line_writes}
-use Rattle.snapshot_reader.specs.Said.{◌>>=◌, number_of, individual_of, fact_of, same_fact, with_fact, distinct, Cause, Said, nothing, refused, says, cause_of, facts_say, line_says, said}
+use Rattle.snapshot_reader.specs.Said.{◌>>=◌, number_of, individual_of, fact_of, same_fact, with_fact, distinct, Cause, refused, says, cause_of, facts_say, line_says, said}
 use Rattle.monitor_core.specs.Answering.{IsOver, IsOverElement, AreOver}
 
 number_below : (kind : Kind) (o : Declared) (text : List ℕ) (n : ℕ) → number_of kind o text ≡ Some n → n < length (names_of kind o)

@@ -1,8 +1,8 @@
 -- A run goes on from what it has read, told and written so far.
-use Rattle.std.proofs.Common.{◌≡◌, ℕ, ◌+◌, ◌<◌, ◌≤◌, ◌^◌, ◌⊎◌, inl, inr, Bool, true, false, Option, None, Some, Result, Ok, Err, List, [], ◌∷◌, ◌++◌, length, refl, sym, ◌∙◌, ap, subst, arith, append_assoc, append-nil, length-append}
+use Rattle.std.proofs.Common.{◌≡◌, ℕ, ◌+◌, ◌^◌, Bool, true, false, Option, None, Some, Ok, List, [], ◌++◌, length, refl, sym, ◌∙◌, ap, subst, arith, append_assoc, append-nil, length-append}
 use Rattle.tcq_syntax.specs.Histories.{History}
-use Rattle.edge_io.specs.Known.{Takes, Gains, IsAtEnd, IsFront}
-use Rattle.edge_io.specs.Lines.{Item as StreamLine, items, whole_items, Continues, Gives}
+use Rattle.edge_io.specs.Known.{Takes, IsAtEnd}
+use Rattle.edge_io.specs.Lines.{Item as StreamLine, items, Continues, Gives}
 use Rattle.edge_io.specs.Reading.{Reading, Reads}
 use Rattle.edge_io.proofs.Continuing.{Gives-after}
 use Rattle.edge_io.proofs.KnownLemmas.{Takes-none, Takes-trans, Gains-none, Gains-trans}
@@ -12,7 +12,7 @@ use Rattle.report_text.specs.declared.item.Item.{Item}
 use Rattle.monitor_run.specs.Told.{Told}
 use Rattle.monitor_core.specs.Standing.{setting_of, Stands}
 use Rattle.monitor_run.proofs.ToldLaws.{told_joined}
-use Rattle.monitor_run.specs.Report.{heading, text_of, bytes_of, refused_in}
+use Rattle.monitor_run.specs.Report.{heading, text_of, bytes_of}
 use Rattle.monitor_run.specs.Writing.{Flushes}
 use Rattle.monitor_run.specs.Serving.{Took, Replied, Serves}
 use Rattle.monitor_run.proofs.Rendering.{bytes-append, refused-append}

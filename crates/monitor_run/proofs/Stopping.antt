@@ -1,7 +1,7 @@
 -- A run ends: cut short, stopped by its reader, or at the end of its input.
-use Rattle.std.proofs.Common.{◌≡◌, ℕ, ◌+◌, ◌<◌, ◌≤◌, ◌^◌, ◌⊎◌, inl, inr, Bool, true, false, Option, None, Some, Result, Ok, Err, List, [], ◌∷◌, ◌++◌, length, refl, sym, ◌∙◌, ap, subst, arith, append_assoc, append-nil, length-append}
+use Rattle.std.proofs.Common.{◌≡◌, ℕ, ◌<◌, inl, inr, Bool, true, false, Option, Ok, Err, List, [], ◌++◌, length, refl, sym, ◌∙◌, ap, subst, arith, append_assoc, append-nil}
 use Rattle.tcq_syntax.specs.Histories.{History}
-use Rattle.edge_io.specs.Known.{Takes, Gains, IsAtEnd, IsFront}
+use Rattle.edge_io.specs.Known.{IsAtEnd, IsFront}
 use Rattle.edge_io.specs.Lines.{Item as StreamLine, items, whole_items, Continues, Gives}
 use Rattle.edge_io.specs.Reading.{Reading, Reads, IsDry, NextDid}
 use Rattle.edge_io.specs.declared.line.Line.{Line}
@@ -21,8 +21,8 @@ use Rattle.monitor_core.specs.Standing.{setting_of, Stands}
 use Rattle.monitor_run.specs.declared.ending.Ending.{Ending}
 use Rattle.monitor_run.specs.declared.ending.Ending.TheVariants.{Done, Usage, BadOntology, UnbuiltOntology, BadQueries, UnbuiltQueries, ReadFault, WriteFault, Memory, StreamLimit}
 use Rattle.monitor_run.specs.Ends.{ending_of, IsFinished, Finishes}
-use Rattle.monitor_run.specs.Report.{heading, text_of, bytes_of_item, refused_in, end_item, Report, Part}
-use Rattle.monitor_run.specs.Watching.{IsBeginning, BeginsReport, IsCutShort, Wrote, Watched}
+use Rattle.monitor_run.specs.Report.{text_of, bytes_of_item, end_item, Report, Part}
+use Rattle.monitor_run.specs.Watching.{BeginsReport, IsCutShort, Wrote, Watched}
 use Rattle.monitor_run.specs.Writing.{Flushes}
 use Rattle.monitor_run.specs.Serving.{Took, Serves}
 use Rattle.monitor_run.proofs.Serving.{took_more}

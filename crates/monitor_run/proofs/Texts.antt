@@ -1,5 +1,5 @@
 -- Files whose first bytes were fetched, and what their texts say.
-use Rattle.std.proofs.Common.{◌≡◌, ℕ, ◌+◌, ◌<◌, ◌≤◌, ◌⊎◌, inl, inr, true, cond, Option, None, Some, Ok, Err, List, [], ◌∷◌, length, take, refl, sym, ◌∙◌, ap, subst, arith}
+use Rattle.std.proofs.Common.{◌≡◌, ℕ, ◌+◌, ◌<◌, ◌≤◌, ◌⊎◌, inl, inr, true, cond, Option, None, Some, Err, List, [], ◌∷◌, length, take, refl, sym, ◌∙◌, ap, subst, arith}
 use Rattle.std.specs.Prelude.{nat_lt, IsSomeAnd}
 use Rattle.std.proofs.lemmas.Bool.Decides.{nat_tests}
 use Rattle.std.proofs.lemmas.List.{take_all, length-take}
@@ -7,7 +7,6 @@ use Rattle.text_scan.specs.Lines.{lines_of}
 use Rattle.dl_syntax.specs.Ontology.{Declared, nothing_declared}
 use Rattle.tcq_syntax.specs.Tcq.{Tcq}
 use Rattle.edge_io.specs.Held.{Store, IsFetched}
-use Rattle.ontology_reader.specs.declared.OntologyKind.{OntologyKind}
 use Rattle.ontology_reader.specs.declared.OntologyKind.TheVariants.{TooLong}
 use Rattle.ontology_reader.specs.Texts.{text_says, lines_added}
 use Rattle.tcq_reader.specs.declared.faults.QueryKind.{QueryKind}

@@ -1,5 +1,5 @@
 -- What a line of a stream comes to.
-use Rattle.std.specs.Prelude.{◌≡◌, ℕ, List}
+use Rattle.std.specs.Prelude.{◌≡◌, List}
 use Rattle.dl_syntax.specs.declared.facts.Fact.{Fact}
 use Rattle.dl_syntax.specs.Ontology.{Declared}
 use Rattle.edge_io.specs.Lines.{Item as StreamLine, text, too_long}

@@ -1,5 +1,5 @@
 -- What a run did to the objects that it was handed, by how it ended.
-use Rattle.std.specs.Prelude.{◌≡◌, ◌⊎◌, ℕ, List, [], ◌∷◌}
+use Rattle.std.specs.Prelude.{◌≡◌, ◌⊎◌, ℕ, List}
 use Rattle.std.specs.declared.option.Option.{Option}
 use Rattle.edge_io.specs.Causes.{Rose}
 use Rattle.edge_io.specs.Held.{Store}

@@ -1,5 +1,5 @@
 -- What a run has done so far.
-use Rattle.std.specs.Prelude.{◌≡◌, ℕ, ◌+◌, ◌^◌, Bool, true, false, List, [], ◌∷◌, ◌++◌, length}
+use Rattle.std.specs.Prelude.{◌≡◌, ℕ, ◌^◌, true, List, ◌++◌, length}
 use Rattle.std.specs.declared.option.Option.{Option}
 use Rattle.tcq_syntax.specs.Histories.{History}
 use Rattle.edge_io.specs.Known.{Takes, Gains, IsAtEnd}

@@ -1,4 +1,4 @@
-use Rattle.std.proofs.Common.{◌≡◌, sym, ◌∙◌}
+use Rattle.std.proofs.Common.{◌∙◌}
 use Rattle.monitor_run.specs.Ends.{line_of}
 use Rattle.monitor_run.proofs.RunLaws.{said}
 use Rattle.monitor_run.proofs.command.say.Goals as goal

@@ -1,4 +1,4 @@
-use Rattle.std.proofs.Common.{◌≡◌, refl}
+use Rattle.std.proofs.Common.{refl}
 use Rattle.monitor_core.specs.Standing.{setting_of, no_history}
 use Rattle.monitor_run.specs.Running.{Outside}
 use Rattle.monitor_run.proofs.RunLaws.{files_watched, files_refused}

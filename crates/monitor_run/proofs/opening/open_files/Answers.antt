@@ -1,4 +1,3 @@
-use Rattle.std.proofs.Common.{◌≡◌, sym}
 use Rattle.monitor_run.proofs.Texts.{refuses_ontology, read_both, opens, refuses_queries}
 use Rattle.monitor_run.proofs.opening.open_files.Goals as goal
 

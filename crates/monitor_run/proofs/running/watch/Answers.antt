@@ -1,4 +1,4 @@
-use Rattle.std.proofs.Common.{◌≡◌, ◌+◌, ◌<◌, ◌≤◌, Ok, Err, [], length, refl, sym, ◌∙◌, ap, subst, arith}
+use Rattle.std.proofs.Common.{◌≡◌, ◌<◌, Ok, Err, length, refl, ◌∙◌, subst, arith}
 use Rattle.edge_io.specs.Reading.{NextDid, given_by, outcome_of_line}
 use Rattle.edge_io.specs.declared.line.Line.TheVariants.{End}
 use Rattle.monitor_core.specs.Standing.{setting_of}

@@ -1,4 +1,4 @@
-use Rattle.std.proofs.Common.{◌≡◌, refl, sym, subst}
+use Rattle.std.proofs.Common.{◌≡◌, refl, subst}
 use Rattle.dl_syntax.specs.Ontology.{Declared}
 use Rattle.snapshot_reader.specs.declared.Form.TheVariants as form
 use Rattle.snapshot_reader.specs.Said.{said, says}

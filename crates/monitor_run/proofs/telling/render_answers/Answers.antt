@@ -1,4 +1,4 @@
-use Rattle.std.proofs.Common.{◌≡◌, ◌<◌, length, get_or, sym, ◌∙◌, ap, subst, arith}
+use Rattle.std.proofs.Common.{◌≡◌, ◌<◌, length, get_or, sym, ap, subst, arith}
 use Rattle.dl_syntax.specs.Ontology.{Declared}
 use Rattle.dl_syntax.specs.Rows.{Relation}
 use Rattle.report_text.specs.Lines.{AreNamed}

@@ -1,4 +1,4 @@
-use Rattle.std.proofs.Common.{◌≡◌, Err, refl, sym, ◌∙◌, ap, subst}
+use Rattle.std.proofs.Common.{Err, refl, sym, ◌∙◌, ap, subst}
 use Rattle.edge_io.specs.Lines.{text}
 use Rattle.report_text.specs.declared.item.Cause.TheVariants as cause
 use Rattle.monitor_core.specs.declared.accept_fault.AcceptFault.{AcceptFault}
