@@ -1,0 +1,7 @@
+//! Laws of the definitions, each the contract of a function with nothing to do.
+ghost use Rattle.saturate.specs.Derived.{DerivedIsReached};
+
+/// What is derived of individuals without nulls is exactly what some run holds of them.
+pub fn derived_is_reached()
+    ensures { DerivedIsReached }
+{}
