@@ -11,11 +11,10 @@ use Rattle.ontology_reader.specs.declared.OntologyKind.TheVariants.{TooLong}
 use Rattle.ontology_reader.specs.Texts.{text_says, lines_added}
 use Rattle.tcq_reader.specs.declared.faults.QueryKind.{QueryKind}
 use Rattle.tcq_reader.specs.Reading.{SaysQueries, IsFault}
-use Rattle.monitor_core.specs.declared.monitor.Monitor.{Monitor}
-use Rattle.monitor_core.specs.Setting.{Setting, IsPlain}
+use Rattle.monitor_core.specs.Setting.{Setting}
 use Rattle.monitor_run.specs.declared.ending.Ending.{Ending}
 use Rattle.monitor_run.specs.declared.ending.Ending.TheVariants.{Done, Usage, BadOntology, UnbuiltOntology, BadQueries, UnbuiltQueries, ReadFault, WriteFault, Memory, StreamLimit}
-use Rattle.monitor_run.specs.Opening.{HasText, SaysOntology, SaysAnswerable, IsOntologyRefused, AreQueriesRefused, Opens, RefusesOntology, RefusesQueries, Refuses}
+use Rattle.monitor_run.specs.Opening.{HasText, SaysOntology, SaysAnswerable, IsOntologyRefused, AreQueriesRefused, Opens, RefusesQueries, Refuses}
 use Rattle.monitor_run.proofs.QueryTexts.{fault_too_long}
 
 -- the bytes are the text, or both have more bytes than the limit
