@@ -9,8 +9,6 @@ mod run;
 mod spread;
 mod substitute;
 mod table;
-#[cfg(test)]
-mod tests;
 mod widen;
 
 pub use combine::{combine_and, combine_or};
