@@ -5,7 +5,5 @@ pub mod laws;
 mod rewriting;
 mod rules;
 mod successors;
-#[cfg(test)]
-mod tests;
 
 pub use rewriting::{RewriteFault, Rewriter, reach_count, rewrite, rewrite_core};

@@ -3,7 +3,6 @@
 
 ghost use Rattle.std.specs.Prelude.{◌≡◌};
 
-mod distinct;
 mod facts;
 mod hearing;
 mod lines;
