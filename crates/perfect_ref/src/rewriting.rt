@@ -33,6 +33,14 @@ pub struct Rewriter {
     rules: Rules,
 }
 
+/// The core of a query's rewriting.
+#[derive(Drop)]
+pub struct Core {
+    pub members: Vec<Cq>,
+    /// How many queries are reachable, those with hidden roles counted too.
+    pub reached: u32,
+}
+
 impl Model for Rewriter {
     ghost use Rattle.perfect_ref.specs.Plain.{Encoded};
 
@@ -187,7 +195,29 @@ impl Rewriter {
         }
     }
 
-    /// The normalised query, and the reachable queries without hidden roles that a replacement by an inclusion with `some` on the right makes of a reachable one, each once. Over facts to which nothing can be added they give the answers. The refusals are those of `rewrite`.
+    /// The normalised query, and the reachable queries without hidden roles that a replacement by an inclusion with `some` on the right makes of a reachable one, each once, beside the count of all reachable queries. Over facts to which nothing can be added they give the answers. The refusals are those of `rewrite`.
+    pub fn counted_core(&self, cq: &Cq, room: u32) -> Result<Core, RewriteFault>
+        requires query { IsQuery cq.now }
+        requires plain { IsPlain self.now.roles cq.now }
+        ensures members { IfOk result (λ core. Lists (PlainCore self.now cq.now) core.members.items) }
+        ensures count { IfOk result (λ core. HoldsOf (Reachable self.now cq.now) core.reached) }
+        ensures few { IfOk result (λ core. core.reached ≤ room) }
+        ensures within { IfOk result (λ _. HoldsOfMore (Reachable self.now cq.now) room → ⊥) }
+        ensures many { result ≡ Err RewriteFault.TooManyRewritings → HoldsOfMore (Reachable self.now cq.now) room }
+    {
+        match self.reach(cq, room) {
+            Ok(found) => match self.core(cq, found.as_slice()) {
+                Ok(members) => {
+                    let reached = found.len() as u32;
+                    Ok(Core { members, reached })
+                }
+                Err(_) => Err(RewriteFault::Memory),
+            },
+            Err(fault) => Err(fault),
+        }
+    }
+
+    /// The same queries alone.
     pub fn rewrite_core(&self, cq: &Cq, room: u32) -> Result<Vec<Cq>, RewriteFault>
         requires query { IsQuery cq.now }
         requires plain { IsPlain self.now.roles cq.now }
@@ -195,11 +225,8 @@ impl Rewriter {
         ensures within { IfOk result (λ _. HoldsOfMore (Reachable self.now cq.now) room → ⊥) }
         ensures many { result ≡ Err RewriteFault.TooManyRewritings → HoldsOfMore (Reachable self.now cq.now) room }
     {
-        match self.reach(cq, room) {
-            Ok(found) => match self.core(cq, found.as_slice()) {
-                Ok(members) => Ok(members),
-                Err(_) => Err(RewriteFault::Memory),
-            },
+        match self.counted_core(cq, room) {
+            Ok(core) => Ok(core.members),
             Err(fault) => Err(fault),
         }
     }
