@@ -1,5 +1,5 @@
 -- A run ends: cut short, stopped by its reader, or at the end of its input.
-use Rattle.std.proofs.Common.{◌≡◌, ℕ, ◌<◌, inl, inr, Bool, true, false, Option, Ok, Err, List, [], ◌++◌, length, refl, sym, ◌∙◌, ap, subst, arith, append_assoc, append-nil}
+use Rattle.std.proofs.Common.{◌≡◌, ℕ, ◌<◌, ◌≤◌, ◌^◌, inl, inr, Bool, true, false, Option, Ok, Err, List, [], ◌++◌, length, refl, sym, ◌∙◌, ap, subst, arith, append_assoc, append-nil}
 use Rattle.tcq_syntax.specs.Histories.{History}
 use Rattle.edge_io.specs.Known.{IsAtEnd, IsFront}
 use Rattle.edge_io.specs.Lines.{Item as StreamLine, items, whole_items, Continues, Gives}
@@ -141,17 +141,17 @@ module _ (setting : Setting) (history : History) (lb ln gb gn : Option (List ℕ
   begins_by taken wrote end report is = (so_far.wrote ++ end, report, (is.0, ap (λ l. so_far.wrote ++ l) is.1 ∙ sym (append_assoc so_far.wrote wrote is.0)))
 
   -- how a run ends behind what was written
-  ends_by : (ending : Ending) (at_end : Type 0) (taken wrote end : List ℕ) → at_end → Report setting history taken (so_far.wrote ++ end) → IsFinished ending wrote end → Wrote ending setting history at_end taken (so_far.wrote ++ wrote)
-  ends_by Done at_end taken wrote end ended report is = (ended, record { told = report.told; after = report.after; tells = report.tells; is = ap (λ l. so_far.wrote ++ l) is ∙ report.is })
-  ends_by Usage at_end taken wrote end ended report is = is
-  ends_by (BadOntology line kind) at_end taken wrote end ended report is = is
-  ends_by UnbuiltOntology at_end taken wrote end ended report is = is
-  ends_by (BadQueries line kind) at_end taken wrote end ended report is = is
-  ends_by UnbuiltQueries at_end taken wrote end ended report is = is
-  ends_by ReadFault at_end taken wrote end ended report is = absurd is
-  ends_by WriteFault at_end taken wrote end ended report is = inr (ended, inr (begins_by taken wrote end report is))
-  ends_by Memory at_end taken wrote end ended report is = inr (ended, inr (begins_by taken wrote end report is))
-  ends_by StreamLimit at_end taken wrote end ended report is = absurd is
+  ends_by : (ending : Ending) (at_end : Type 0) (taken wrote end : List ℕ) → at_end → length taken ≤ 2 ^ 40 → Report setting history taken (so_far.wrote ++ end) → IsFinished ending wrote end → Wrote ending setting history at_end taken (so_far.wrote ++ wrote)
+  ends_by Done at_end taken wrote end ended within report is = (ended, within, record { told = report.told; after = report.after; tells = report.tells; is = ap (λ l. so_far.wrote ++ l) is ∙ report.is })
+  ends_by Usage at_end taken wrote end ended within report is = is
+  ends_by (BadOntology line kind) at_end taken wrote end ended within report is = is
+  ends_by UnbuiltOntology at_end taken wrote end ended within report is = is
+  ends_by (BadQueries line kind) at_end taken wrote end ended within report is = is
+  ends_by UnbuiltQueries at_end taken wrote end ended within report is = is
+  ends_by ReadFault at_end taken wrote end ended within report is = absurd is
+  ends_by WriteFault at_end taken wrote end ended within report is = inr (ended, inr (begins_by taken wrote end report is))
+  ends_by Memory at_end taken wrote end ended within report is = inr (ended, inr (begins_by taken wrote end report is))
+  ends_by StreamLimit at_end taken wrote end ended within report is = absurd is
 
   -- the input ended
   pub finishes : (ending : Ending) (ln' gn' : Option (List ℕ)) (new : Reading) → NextDid reading new ln ln' (Ok End) → ((at : History) → Stands monitor at → Finishes gn gn' (gathered ++ bytes_of_item (setting_of monitor) (item.End (count_of at) refused)) ending) → Watched ending setting history lb ln' gb gn'
@@ -163,7 +163,7 @@ module _ (setting : Setting) (history : History) (lb ln gb gn : Option (List ℕ
         takes = took.takes;
         wrote = so_far.wrote ++ finished.wrote;
         gains = Gains-trans gb gn gn' so_far.wrote finished.wrote so_far.gains finished.gains;
-        writes = ends_by ending (IsAtEnd ln') took.taken finished.wrote (gathered ++ last) (took.end did.stops) (whole_report ln' new took did.stops) finished.is;
+        writes = ends_by ending (IsAtEnd ln') took.taken finished.wrote (gathered ++ last) (took.end did.stops) (omega (arith, took.size, took.limit, did.ended_within did.stops)) (whole_report ln' new took did.stops) finished.is;
       }
 
 -- a line is one item

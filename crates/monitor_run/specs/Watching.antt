@@ -1,5 +1,5 @@
 -- What a run took and wrote, by how it ended.
-use Rattle.std.specs.Prelude.{◌≡◌, ◌⊎◌, ℕ, ◌<◌, ◌^◌, List, ◌++◌, length}
+use Rattle.std.specs.Prelude.{◌≡◌, ◌⊎◌, ℕ, ◌<◌, ◌≤◌, ◌^◌, List, ◌++◌, length}
 use Rattle.std.specs.declared.option.Option.{Option}
 use Rattle.tcq_syntax.specs.Histories.{History}
 use Rattle.edge_io.specs.Known.{Takes, Gains, IsAtEnd, IsFront}
@@ -33,7 +33,7 @@ IsCutShort setting history at_end taken wrote =
 
 -- what was written of the report of the bytes taken
 abbrev pub Wrote : Ending → Setting → History → Type 0 → List ℕ → List ℕ → Type 0
-Wrote Done setting history at_end taken wrote = at_end × Report setting history taken wrote
+Wrote Done setting history at_end taken wrote = at_end × (length taken ≤ 2 ^ 40) × Report setting history taken wrote
 Wrote ReadFault setting history at_end taken wrote = Part setting history taken wrote
 Wrote StreamLimit setting history at_end taken wrote = (2 ^ 40 < length taken) × Part setting history taken wrote
 Wrote WriteFault setting history at_end taken wrote = IsCutShort setting history at_end taken wrote
