@@ -3,13 +3,14 @@ use Rattle.std.proofs.Common.{◌≡◌, ℕ, List, [], ◌∷◌, ◌++◌, ref
 use Rattle.std.specs.Prelude.{Option, Some, None}
 use Rattle.std.specs.Option.{option_map}
 use Rattle.std.proofs.lemmas.List.{append-nil}
-use Rattle.dl_syntax.specs.Snapshots.{IsSnapshot}
+use Rattle.std.specs.List.{All}
+use Rattle.dl_syntax.specs.Facts.{HasNoNull}
 use Rattle.dl_syntax.specs.Ontology.{Declared}
 use Rattle.snapshot_reader.specs.declared.hearing.Heard.{Heard}
 use Rattle.snapshot_reader.specs.Written.{Written}
 use Rattle.snapshot_reader.specs.Cursor.{facts_from}
 use Rattle.snapshot_reader.specs.Hearing.{Hears}
-use Rattle.snapshot_reader.proofs.FactsSaid.{is_snapshot}
+use Rattle.snapshot_reader.proofs.FactsSaid.{facts_free}
 
 -- the facts that were read, and those that follow
 abbrev pub behind_facts : List Written → Option (List Written) → Option (List Written)
@@ -47,5 +48,5 @@ all_heard o line from place heard h end = sym h.rest ∙ ap (behind_facts h.done
 pub none_heard : (o : Declared) (line : List ℕ) (from place : ℕ) (heard : Heard) (h : HasHeard o line from place heard) → facts_from line place ≡ None → facts_from line from ≡ None
 none_heard o line from place heard h bad = sym h.rest ∙ ap (behind_facts h.done) bad
 
-pub sound : (o : Declared) (line : List ℕ) (from place : ℕ) (heard : Heard) → HasHeard o line from place heard → IsSnapshot heard.facts.keys
-sound o line from place heard h = subst IsSnapshot (sym h.hears.facts) (is_snapshot o h.done)
+pub without_nulls : (o : Declared) (line : List ℕ) (from place : ℕ) (heard : Heard) → HasHeard o line from place heard → All HasNoNull heard.facts.items
+without_nulls o line from place heard h = subst (All HasNoNull) (sym h.hears.facts) (facts_free o h.done)

@@ -16,7 +16,7 @@ use Rattle.dl_syntax.specs.Ontology.{Declared}
 use Rattle.dl_syntax.proofs.AllByCons.{Contains-none, Contains-cons_cases, AllPairs-nil, AllPairs-push}
 use Rattle.snapshot_reader.specs.Written.{Written, unary, binary}
 use Rattle.snapshot_reader.specs.Said.{number_of, first_unknown, first_misused, first_undeclared, most_facts, fact_of, same_fact, with_fact, distinct, facts_say, refused, says, unknown, wrong_kind, undeclared, too_many_facts, ◌>>=◌}
-use Rattle.snapshot_reader.proofs.HearingLaws.{fact_decides}
+use Rattle.snapshot_reader.proofs.DistinctFacts.{fact_decides}
 
 -- ---- the first cause
 
@@ -87,10 +87,10 @@ cons_free : (found : Option Fact) (facts : List Fact) → IfSome found HasNoNull
 cons_free None facts free later = later
 cons_free (Some f) facts free later = All-cons HasNoNull f facts free later
 
-facts_free : (o : Declared) (facts : List Written) → All HasNoNull (filter_map (fact_of o) facts)
+pub facts_free : (o : Declared) (facts : List Written) → All HasNoNull (filter_map (fact_of o) facts)
 facts_free o [] = All-nil HasNoNull
 facts_free o (w ∷ facts) = cons_free (fact_of o w) (filter_map (fact_of o) facts) (fact_free o w) (facts_free o facts)
 
-pub is_snapshot : (o : Declared) (facts : List Written) → IsSnapshot (distinct (filter_map (fact_of o) facts))
+pub distinct_sound : (facts : List Fact) → All HasNoNull facts → IsSnapshot (distinct facts)
 unfolding distinct
-is_snapshot o facts = fold_sound [] (filter_map (fact_of o) facts) (record { distinct = AllPairs-nil (λ x y. x ≢ y); without_nulls = All-nil HasNoNull }) (facts_free o facts)
+distinct_sound facts free = fold_sound [] facts (record { distinct = AllPairs-nil (λ x y. x ≢ y); without_nulls = All-nil HasNoNull }) free

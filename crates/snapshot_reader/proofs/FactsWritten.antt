@@ -1,13 +1,14 @@
 -- What facts can't go on with.
 use Rattle.std.proofs.Common.{◌≡◌, ℕ, ◌≤◌, List, [], ◌∷◌, ◌++◌, refl, ◌∙◌, arith}
-use Rattle.std.specs.Prelude.{Some, None}
+use Rattle.std.specs.Prelude.{Option, Some, None, map}
 use Rattle.std.specs.Option.{option_map}
 use Rattle.text_scan.specs.declared.TokenKind.{TokenKind}
 use Rattle.text_scan.specs.declared.TokenKind.TheVariants.{Name, Open, Close, Comma}
+use Rattle.text_scan.specs.Lexing.{Lexeme, Lexed, with_first}
 use Rattle.snapshot_reader.specs.declared.facts.NextFact.{NextFact}
 use Rattle.snapshot_reader.specs.declared.facts.NextFact.TheVariants as next
 use Rattle.snapshot_reader.specs.Cursor.{symbols_from, IsNextBehind}
-use Rattle.snapshot_reader.specs.Written.{unary, binary, Symbol, token, at_fault, facts_written}
+use Rattle.snapshot_reader.specs.Written.{unary, binary, Symbol, token, at_fault, symbol, last_symbol, symbols, facts_written}
 
 abbrev pub BeginsNot : TokenKind → List Symbol → Type 0
 BeginsNot kind xs = (text : List ℕ) (rest : List Symbol) → xs ≡ token kind text ∷ rest → ⊥
@@ -69,3 +70,13 @@ pub earlier : (front more : List Symbol) (line : List ℕ) (from later : ℕ) (f
 earlier front more line from later (next.Fact written end) same before h = (same ∙ h.0, omega (arith, h.1), h.2)
 earlier front more line from later next.End same before h = same ∙ h
 earlier front more line from later next.Malformed same before h = same ∙ h
+
+-- ---- the first symbol
+
+pub no_symbol : (kind : TokenKind) (read : Lexed) → ((first : Lexeme) (rest : Lexed) → read ≡ with_first first rest → first.kind ≡ kind → ⊥) → BeginsNot kind (symbols read)
+no_symbol kind read none = go read.tokens read.fault none
+  where
+    go : (tokens : List Lexeme) (fault : Option ℕ) → ((first : Lexeme) (rest : Lexed) → (let whole : Lexed = record { tokens = tokens; fault = fault } in whole ≡ with_first first rest) → first.kind ≡ kind → ⊥) → BeginsNot kind (map symbol tokens ++ last_symbol fault)
+    go [] None absent = λ text rest is. cc
+    go [] (Some place) absent = λ text rest is. cc
+    go (l ∷ ls) fault absent = λ text rest is. absent l (record { tokens = ls; fault = fault }) refl (let same : token l.kind l.text ≡ token kind text = cc in cc)

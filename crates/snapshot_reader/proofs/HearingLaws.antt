@@ -99,19 +99,17 @@ undeclared_more o done w =
 
 -- ---- the facts with one more fact
 
-facts_more : (o : Declared) (done : List Written) (w : Written) (f : Fact) → fact_of o w ≡ Some f → distinct (filter_map (fact_of o) (done ++ w ∷ [])) ≡ with_fact (distinct (filter_map (fact_of o) done)) f
-unfolding distinct
-facts_more o done w f is =
-    ap distinct (filter_map-append (fact_of o) done (w ∷ []) ∙ ap (λ (found : Option Fact). filter_map (fact_of o) done ++ cons_option found []) is) ∙ fold-append with_fact [] (filter_map (fact_of o) done) (f ∷ [])
+facts_more : (o : Declared) (done : List Written) (w : Written) (f : Fact) → fact_of o w ≡ Some f → filter_map (fact_of o) (done ++ w ∷ []) ≡ filter_map (fact_of o) done ++ f ∷ []
+facts_more o done w f is = filter_map-append (fact_of o) done (w ∷ []) ∙ ap (λ (found : Option Fact). filter_map (fact_of o) done ++ cons_option found []) is
 
-facts_same : (o : Declared) (done : List Written) (w : Written) → fact_of o w ≡ None → distinct (filter_map (fact_of o) (done ++ w ∷ [])) ≡ distinct (filter_map (fact_of o) done)
+facts_same : (o : Declared) (done : List Written) (w : Written) → fact_of o w ≡ None → filter_map (fact_of o) (done ++ w ∷ []) ≡ filter_map (fact_of o) done
 facts_same o done w is =
-    ap distinct (filter_map-append (fact_of o) done (w ∷ []) ∙ ap (λ (found : Option Fact). filter_map (fact_of o) done ++ cons_option found []) is ∙ append-nil (filter_map (fact_of o) done))
+    filter_map-append (fact_of o) done (w ∷ []) ∙ ap (λ (found : Option Fact). filter_map (fact_of o) done ++ cons_option found []) is ∙ append-nil (filter_map (fact_of o) done)
 
 -- ---- what is known with one more fact
 
 pub heard_fact : (o : Declared) (done : List Written) (w : Written) (f : Fact) (old new : Heard) → fact_of o w ≡ Some f
-    → new.blamed ≡ old.blamed → new.count ≡ old.count + 1 → new.facts.keys ≡ with_fact old.facts.keys f
+    → new.blamed ≡ old.blamed → new.count ≡ old.count + 1 → new.facts.items ≡ old.facts.items ++ f ∷ []
     → Hears o done old → Hears o (done ++ w ∷ []) new
 heard_fact o done w f old new is blamed count facts h =
     let clear = no_fault o w f is in
@@ -120,14 +118,14 @@ heard_fact o done w f old new is blamed count facts h =
       misused = ap (λ (b : Blamed). name_seen b.misused) blamed ∙ h.misused ∙ sym (misused_more o done w ∙ ap (option_or (first_misused o done)) clear.1 ∙ or_none (first_misused o done));
       undeclared = ap (λ (b : Blamed). name_seen b.undeclared) blamed ∙ h.undeclared ∙ sym (undeclared_more o done w ∙ ap (option_or (first_undeclared o done)) clear.2 ∙ or_none (first_undeclared o done));
       count = count ∙ ap (λ (n : ℕ). n + 1) h.count ∙ sym (length-append done (w ∷ []));
-      facts = facts ∙ ap (λ (fs : List Fact). with_fact fs f) h.facts ∙ sym (facts_more o done w f is);
+      facts = facts ∙ ap (λ (fs : List Fact). fs ++ f ∷ []) h.facts ∙ sym (facts_more o done w f is);
     }
 
 pub heard_fault : (o : Declared) (done : List Written) (w : Written) (old new : Heard) → fact_of o w ≡ None
     → name_seen new.blamed.unknown ≡ option_or (name_seen old.blamed.unknown) (first_unknown o (w ∷ []))
     → name_seen new.blamed.misused ≡ option_or (name_seen old.blamed.misused) (first_misused o (w ∷ []))
     → name_seen new.blamed.undeclared ≡ option_or (name_seen old.blamed.undeclared) (first_undeclared o (w ∷ []))
-    → new.count ≡ old.count + 1 → new.facts.keys ≡ old.facts.keys
+    → new.count ≡ old.count + 1 → new.facts.items ≡ old.facts.items
     → Hears o done old → Hears o (done ++ w ∷ []) new
 heard_fault o done w old new is unknown misused undeclared count facts h =
     record {
@@ -137,33 +135,3 @@ heard_fault o done w old new is unknown misused undeclared count facts h =
       count = count ∙ ap (λ (n : ℕ). n + 1) h.count ∙ sym (length-append done (w ∷ []));
       facts = facts ∙ h.facts ∙ sym (facts_same o done w is);
     }
-
--- ---- a set's test of facts
-
-pub element_decides : (x y : Element) → Decides (same_element x y) (x ≡ y)
-element_decides (Ind i) (Ind j) = search rules
-element_decides (Ind i) (Null n) = search rules
-element_decides (Null m) (Ind j) = search rules
-element_decides (Null m) (Null n) = search rules
-
-pub fact_decides : (f g : Fact) → Decides (same_fact f g) (f ≡ g)
-fact_decides (fact.Concept c x) (fact.Concept d y) =
-    Decides-like (same_fact (fact.Concept c x) (fact.Concept d y))
-    (λ h. ap (λ (n : ℕ). fact.Concept (record { 0 = n }) x) h.0 ∙ ap (λ (z : Element). fact.Concept d z) h.1)
-    (λ e. let same : c ≡ d = cc in (ap (λ (n : ConceptId). n.0) same, cc))
-    (Decides-and (c.0 == d.0) (same_element x y) (Decides-eqb c.0 d.0) (element_decides x y))
-fact_decides (fact.Role p x y) (fact.Role q u v) =
-    Decides-like (same_fact (fact.Role p x y) (fact.Role q u v))
-    (λ h. ap (λ (n : ℕ). fact.Role (record { 0 = n }) x y) h.0.0 ∙ ap (λ (z : Element). fact.Role q z y) h.0.1 ∙ ap (λ (z : Element). fact.Role q u z) h.1)
-    (λ e. let same : p ≡ q = cc in ((ap (λ (n : RoleId). n.0) same, cc), cc))
-    (Decides-and (p.0 == q.0 && same_element x u) (same_element y v) (Decides-and (p.0 == q.0) (same_element x u) (Decides-eqb p.0 q.0) (element_decides x u)) (element_decides y v))
-fact_decides (fact.Concept c x) (fact.Role q u v) = (λ h. absurd cc, λ e. absurd cc)
-fact_decides (fact.Role p x y) (fact.Concept d z) = (λ h. absurd cc, λ e. absurd cc)
-
-any_same : (E D : Fact → Bool) (facts : List Fact) → ((g : Fact) → E g ≡ D g) → list_any E facts ≡ list_any D facts
-any_same E D [] same = refl
-any_same E D (g ∷ facts) same = rw (same g) (ap (λ (b : Bool). D g || b) (any_same E D facts same))
-
-pub inserted : (E : Fact → Fact → Bool) (facts new : List Fact) (f : Fact) → new ≡ insert_key E facts f → IsExact E → new ≡ with_fact facts f
-inserted E facts new f is exact =
-    is ∙ ap (λ (b : Bool). cond b facts (facts ++ f ∷ [])) (any_same (E f) (same_fact f) facts (λ g. same_from_decides (E f g) (same_fact f g) (exact f g) (fact_decides f g)))

@@ -5,12 +5,12 @@ use Rattle.dl_syntax.specs.Ontology.{Declared}
 use Rattle.snapshot_reader.specs.declared.hearing.Heard.{Heard}
 use Rattle.snapshot_reader.specs.Written.{Written}
 use Rattle.snapshot_reader.specs.Cursor.{name_seen}
-use Rattle.snapshot_reader.specs.Said.{first_unknown, first_misused, first_undeclared, distinct, fact_of}
+use Rattle.snapshot_reader.specs.Said.{first_unknown, first_misused, first_undeclared, fact_of}
 
--- the first name at fault for each cause, how many facts were written, and the distinct facts
+-- the first name at fault for each cause, how many facts were written, and those whose names are declared so
 pub record Hears (o : Declared) (done : List Written) (h : Heard) : Type 0 where
   pub unknown : name_seen h.blamed.unknown ≡ first_unknown o done
   pub misused : name_seen h.blamed.misused ≡ first_misused o done
   pub undeclared : name_seen h.blamed.undeclared ≡ first_undeclared o done
   pub count : h.count ≡ length done
-  pub facts : h.facts.keys ≡ distinct (filter_map (fact_of o) done)
+  pub facts : h.facts.items ≡ filter_map (fact_of o) done

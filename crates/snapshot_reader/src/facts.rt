@@ -1,7 +1,8 @@
 ghost use Rattle.std.specs.Prelude.{◌≡◌, ◌≤◌, length};
+ghost use Rattle.text_scan.specs.Expecting.{IsMark};
 ghost use Rattle.snapshot_reader.specs.Cursor.{IsTokenOf, IsNextFact, IsFirstArgument, IsSecondArgument};
 
-use text_scan::{Next, TokenKind, next_token};
+use text_scan::{Next, TokenKind, next_mark, next_name, next_token};
 
 /// A fact by the names of its predicate and of its arguments.
 #[derive(Clone, Copy, Debug)]
@@ -21,25 +22,28 @@ pub(crate) enum NextFact<'a> {
     Malformed,
 }
 
-/// The text of the next token and the place behind it, if the token is of this kind.
+/// The text of the next token and the place behind it, if the token is a name.
 #[inline]
-pub(crate) fn token_of<'a>(
-    line: &'a [u8],
-    from: usize,
-    kind: TokenKind,
-) -> Option<(&'a [u8], usize)>
+pub(crate) fn name_of<'a>(line: &'a [u8], from: usize) -> Option<(&'a [u8], usize)>
     requires { from ≤ length line.now }
+    ensures { IsTokenOf TokenKind.Name line.now from result }
+{
+    match next_name(line, from) {
+        Some(token) => Some((token.text, token.end())),
+        None => None,
+    }
+}
+
+/// The text of the next token and the place behind it, if the token is this mark.
+#[inline]
+fn mark_of<'a>(line: &'a [u8], from: usize, kind: TokenKind) -> Option<(&'a [u8], usize)>
+    requires place { from ≤ length line.now }
+    requires mark { IsMark kind }
     ensures { IsTokenOf kind line.now from result }
 {
-    match next_token(line, from) {
-        Next::Token(token) => {
-            if token.kind == kind {
-                Some((token.text, token.end()))
-            } else {
-                None
-            }
-        }
-        _ => None,
+    match next_mark(line, from, kind) {
+        Some(token) => Some((token.text, token.end())),
+        None => None,
     }
 }
 
@@ -54,10 +58,10 @@ fn second_argument<'a>(
     requires { from ≤ length line.now }
     ensures { IsSecondArgument predicate.now first.now line.now from result }
 {
-    let Some((second, end)) = token_of(line, from, TokenKind::Name) else {
+    let Some((second, end)) = name_of(line, from) else {
         return NextFact::Malformed;
     };
-    match token_of(line, end, TokenKind::Close) {
+    match mark_of(line, end, TokenKind::Close) {
         Some((_, end)) => NextFact::Fact(Written::Binary(predicate, first, second), end),
         None => NextFact::Malformed,
     }
@@ -69,13 +73,13 @@ fn first_argument<'a>(line: &'a [u8], predicate: &'a [u8], from: usize) -> NextF
     requires { from ≤ length line.now }
     ensures { IsFirstArgument predicate.now line.now from result }
 {
-    let Some((first, end)) = token_of(line, from, TokenKind::Name) else {
+    let Some((first, end)) = name_of(line, from) else {
         return NextFact::Malformed;
     };
-    if let Some((_, end)) = token_of(line, end, TokenKind::Close) {
+    if let Some((_, end)) = mark_of(line, end, TokenKind::Close) {
         return NextFact::Fact(Written::Unary(predicate, first), end);
     }
-    match token_of(line, end, TokenKind::Comma) {
+    match mark_of(line, end, TokenKind::Comma) {
         Some((_, end)) => second_argument(line, predicate, first, end),
         None => NextFact::Malformed,
     }
@@ -87,10 +91,10 @@ pub(crate) fn next_fact<'a>(line: &'a [u8], from: usize) -> NextFact<'a>
     requires { from ≤ length line.now }
     ensures { IsNextFact line.now from result }
 {
-    let Some((predicate, end)) = token_of(line, from, TokenKind::Name) else {
+    let Some((predicate, end)) = name_of(line, from) else {
         return end_of_facts(line, from);
     };
-    match token_of(line, end, TokenKind::Open) {
+    match mark_of(line, end, TokenKind::Open) {
         Some((_, end)) => first_argument(line, predicate, end),
         None => NextFact::Malformed,
     }

@@ -1,17 +1,18 @@
 ghost use Rattle.std.specs.Prelude.{◌≡◌, ◌++◌, ◌∷◌, [], List, OnOk, ◌<◌, ◌^◌};
 ghost use Rattle.dl_syntax.specs.Ontology.{Declared};
-ghost use Rattle.dl_syntax.specs.Snapshots.{IsSnapshot};
+ghost use Rattle.std.specs.List.{All};
+ghost use Rattle.dl_syntax.specs.Facts.{HasNoNull};
 ghost use Rattle.snapshot_reader.specs.Written as spec;
 ghost use Rattle.std.specs.Option.{option_or};
 ghost use Rattle.snapshot_reader.specs.Said.{first_unknown, first_misused, first_undeclared, facts_say};
 ghost use Rattle.snapshot_reader.specs.Answers.{Tells};
 ghost use Rattle.snapshot_reader.specs.Cursor.{written_seen, name_seen};
 
+use crate::distinct::distinct;
 use crate::facts::Written;
 use crate::names::{fact_of, misused, undeclared, unknown};
 use crate::{Reading, SnapFault};
 use dl_syntax::{Fact, Memory, Name, Ontology, Snapshot};
-use indexmap::IndexSet;
 use std::alloc::Global;
 
 /// The most facts that a line writes, repeats counted.
@@ -46,14 +47,13 @@ impl<'a> Blamed<'a> {
 pub(crate) struct Heard<'a> {
     blamed: Blamed<'a>,
     count: usize,
-    facts: IndexSet<Fact>,
+    facts: Vec<Fact>,
 }
 
 impl<'a> Heard<'a> {
     ghost use Rattle.snapshot_reader.specs.Hearing.{Hears};
 
     /// No fact was written.
-    #[tactic(auto, unfolding(crate::specs::Said::distinct))]
     pub(crate) fn new(alloc: Global) -> Heard<'a>
         ensures { (o : Declared) → Hears o [] result }
     {
@@ -64,7 +64,7 @@ impl<'a> Heard<'a> {
                 undeclared: None,
             },
             count: 0,
-            facts: IndexSet::new(alloc),
+            facts: Vec::new(alloc),
         }
     }
 
@@ -74,9 +74,7 @@ impl<'a> Heard<'a> {
         ensures { OnOk result ((done : List spec.Written) → Hears ontology.now done self.old → Hears ontology.now (done ++ written_seen written.now ∷ []) self.new) }
     {
         match fact_of(ontology, written) {
-            Some(fact) => {
-                self.facts.insert(fact)?;
-            }
+            Some(fact) => self.facts.push(fact)?,
             None => self.blamed = self.blamed.with(ontology, written),
         }
         self.count += 1;
@@ -85,7 +83,7 @@ impl<'a> Heard<'a> {
 
     /// What a line of these facts gives.
     pub(crate) fn reading(self, alloc: Global) -> Result<Reading, SnapFault>
-        requires { IsSnapshot self.facts.keys }
+        requires { All HasNoNull self.facts.items }
         ensures { (o : Declared) (done : List spec.Written) → Hears o done self.entry → Tells result (facts_say o done) }
     {
         if let Some(name) = self.blamed.unknown {
@@ -100,7 +98,7 @@ impl<'a> Heard<'a> {
         if self.count > FACT_LIMIT {
             return Err(SnapFault::TooManyFacts);
         }
-        let facts = Vec::from_slice(alloc, self.facts.as_slice())?;
+        let facts = distinct(alloc, self.facts)?;
         Ok(Reading::Facts(Snapshot::new(facts)))
     }
 }

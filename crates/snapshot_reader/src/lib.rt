@@ -3,6 +3,7 @@
 
 ghost use Rattle.std.specs.Prelude.{◌≡◌};
 
+mod distinct;
 mod facts;
 mod hearing;
 mod lines;

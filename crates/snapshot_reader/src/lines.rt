@@ -1,17 +1,18 @@
 ghost use Rattle.std.specs.Prelude.{◌≡◌, ◌≤◌, length};
 ghost use Rattle.std.specs.Option.{option_map_or};
+ghost use Rattle.text_scan.specs.declared.TokenKind.TheVariants.{Name};
 ghost use Rattle.dl_syntax.specs.Ontology.{Declared};
 ghost use Rattle.snapshot_reader.specs.Written.{writes, malformed, symbols_write};
 ghost use Rattle.snapshot_reader.specs.Said.{line_says, said};
 ghost use Rattle.snapshot_reader.specs.Answers.{Tells};
 ghost use Rattle.snapshot_reader.specs.Cursor.{symbols_from, facts_from, IsTokenOf};
 
-use crate::facts::{NextFact, next_fact, token_of};
+use crate::facts::{NextFact, name_of, next_fact};
 use crate::hearing::Heard;
 use crate::{Form, Reading, SnapFault};
 use dl_syntax::Ontology;
 use std::alloc::Global;
-use text_scan::{Next, TokenKind, next_token};
+use text_scan::{Next, next_token};
 
 /// What the facts from a place on say.
 fn read_facts(
@@ -39,7 +40,7 @@ fn read_facts(
 
 /// What a line says that doesn't begin with a name.
 fn read_no_name(line: &[u8]) -> Result<Reading, SnapFault>
-    requires { IsTokenOf TokenKind.Name line.now 0 None }
+    requires { IsTokenOf Name line.now 0 None }
     ensures { (o : Declared) → Tells result (line_says o (symbols_write (symbols_from line.now 0))) }
 {
     match next_token(line, 0) {
@@ -53,7 +54,7 @@ fn read_no_name(line: &[u8]) -> Result<Reading, SnapFault>
 fn read_text(alloc: Global, line: &[u8], ontology: &Ontology) -> Result<Reading, SnapFault>
     ensures { Tells result (line_says ontology.now (symbols_write (symbols_from line.now 0))) }
 {
-    let Some((word, end)) = token_of(line, 0, TokenKind::Name) else {
+    let Some((word, end)) = name_of(line, 0) else {
         return read_no_name(line);
     };
     if word != b"snap".as_slice() {

@@ -14,7 +14,7 @@ choose : {X : Type 0} (P : X → Type 0) (b : Bool) (x y : X) → P x → P y �
 choose P true x y h k = h
 choose P false x y h k = k
 
-named_within : (room : ℕ) (kind : TokenKind) (before : ℕ) (rest : List ℕ) → 1 ≤ before → before + length rest ≤ room → LiesWithin room (named kind before rest)
+pub named_within : (room : ℕ) (kind : TokenKind) (before : ℕ) (rest : List ℕ) → 1 ≤ before → before + length rest ≤ room → LiesWithin room (named kind before rest)
 named_within room kind before rest some le =
     choose (LiesWithin room) (leb (1 + prefix_len is_name_byte rest) 64) _ _ (omega arith, omega (arith, prefix_len-le-length is_name_byte rest)) tt
 
@@ -22,7 +22,7 @@ variable_within : (room : ℕ) (rest : List ℕ) → 1 + length rest ≤ room �
 variable_within room [] le = tt
 variable_within room (b ∷ rest) le = choose (LiesWithin room) (is_letter b) _ _ (named_within room Var 2 rest (omega arith) (omega arith)) tt
 
-mark_within : (room b : ℕ) → 1 ≤ room → LiesWithin room (mark b)
+pub mark_within : (room b : ℕ) → 1 ≤ room → LiesWithin room (mark b)
 mark_within room b le =
     let one : (kind : TokenKind) → LiesWithin room (Word kind 1) = λ kind. (omega arith, le) in
     let P : Piece → Type 0 = LiesWithin room in

@@ -8,8 +8,10 @@ ghost use Rattle.text_scan.specs.Bytes.{is_letter, is_name_byte};
 ghost use Rattle.text_scan.specs.Lexing.{front_piece, named, variable, mark, LiesWithin, Scans, AreSlices, IsNext, lexeme, lexed, behind};
 ghost use Rattle.text_scan.specs.Spelling.{IsSpelled};
 
+mod expecting;
 mod lines;
 
+pub use expecting::{next_mark, next_name};
 pub use lines::line_at;
 use lines::line_end;
 use std::alloc::{AllocError, Global};

@@ -1,7 +1,7 @@
 use Rattle.std.proofs.Common.{◌∷◌, [], arith, length-append}
 use Rattle.snapshot_reader.specs.Written.{Written}
 use Rattle.snapshot_reader.specs.Cursor.{written_seen}
-use Rattle.snapshot_reader.proofs.FactsHeard.{at_first, one_more, sound}
+use Rattle.snapshot_reader.proofs.FactsHeard.{at_first, one_more, without_nulls}
 use Rattle.snapshot_reader.proofs.lines.read_facts.Goals as goal
 
 pub loop-written-init : goal.loop-written-init
@@ -24,4 +24,4 @@ loop-written-preserved c =
     }
 
 pub reading-requires : goal.reading-requires
-reading-requires c = sound c.args.ontology.now c.args.line.now c.args.from c.loop-written.place c.loop-written.heard c.loop-written.invariant.heard
+reading-requires c = without_nulls c.args.ontology.now c.args.line.now c.args.from c.loop-written.place c.loop-written.heard c.loop-written.invariant.heard

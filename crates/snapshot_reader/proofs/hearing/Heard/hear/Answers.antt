@@ -1,10 +1,9 @@
-use Rattle.std.proofs.Common.{◌+◌, sym, ap, ◌∙◌, rules}
-use Rattle.dl_syntax.specs.contracts.facts.FactPartialEq.TheImpl.{eq-value}
+use Rattle.std.proofs.Common.{◌+◌, ◌++◌, ◌∷◌, [], sym, ap, ◌∙◌}
 use Rattle.snapshot_reader.specs.declared.hearing.Heard.{Heard}
 use Rattle.snapshot_reader.specs.Cursor.{written_seen, name_seen}
-use Rattle.snapshot_reader.proofs.HearingLaws.{heard_fact, heard_fault, inserted}
+use Rattle.snapshot_reader.proofs.HearingLaws.{heard_fact, heard_fault}
 use Rattle.snapshot_reader.proofs.hearing.Heard.hear.Goals as goal
-use Rattle.snapshot_reader.proofs.hearing.Heard.hear.Goals.{in-Some+in_ok-insert-in-Some, in-None}
+use Rattle.snapshot_reader.proofs.hearing.Heard.hear.Goals.{in-Some+in_ok-push-in-Some, in-None}
 
 pub returns : goal.returns
 returns c = λ done h.
@@ -13,14 +12,14 @@ returns c = λ done h.
     let new : Heard = record { blamed = now.blamed; count = now.count + 1; facts = now.facts } in
     let written = written_seen c.args.written.now in
     elim c.match-fact_of.branch [
-      | in-Some+in_ok-insert-in-Some w ↦
+      | in-Some+in_ok-push-in-Some w ↦
           heard_fact c.args.ontology.now done written w.in-Some.fact old new (sym w.in-Some.ensures)
           (ap (λ (s : Heard). s.blamed) w.self-is) (ap (λ (s : Heard). s.count + 1) w.self-is)
-          (ap (λ (s : Heard). s.facts.keys) w.self-is ∙ inserted eq-value.it old.facts.keys w.insert.new.self.keys w.in-Some.fact w.in_ok-insert-in-Some.ensures.keys (λ a b. search rules)) h
+          (ap (λ (s : Heard). s.facts.items) w.self-is ∙ w.in_ok-push-in-Some.ensures.items) h
       | in-None w ↦
           heard_fault c.args.ontology.now done written old new (sym w.in-None.ensures)
           (ap (λ (s : Heard). name_seen s.blamed.unknown) w.self-is ∙ w.with-self.ensures.unknown)
           (ap (λ (s : Heard). name_seen s.blamed.misused) w.self-is ∙ w.with-self.ensures.misused)
           (ap (λ (s : Heard). name_seen s.blamed.undeclared) w.self-is ∙ w.with-self.ensures.undeclared)
-          (ap (λ (s : Heard). s.count + 1) w.self-is) (ap (λ (s : Heard). s.facts.keys) w.self-is) h
+          (ap (λ (s : Heard). s.count + 1) w.self-is) (ap (λ (s : Heard). s.facts.items) w.self-is) h
     ]

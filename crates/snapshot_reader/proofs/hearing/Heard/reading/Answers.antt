@@ -1,9 +1,10 @@
-use Rattle.std.proofs.Common.{◌≡◌, ◌<◌, ◌≤◌, sym, ap, ◌∙◌, arith, length, rules}
+use Rattle.std.proofs.Common.{◌≡◌, ◌<◌, ◌≤◌, sym, ap, ◌∙◌, arith, length, subst}
 use Rattle.std.specs.Prelude.{Some}
 use Rattle.std.proofs.lemmas.List.Elements.{same_from_all_zip}
-use Rattle.snapshot_reader.specs.Said.{says, most_facts}
+use Rattle.dl_syntax.specs.Snapshots.{IsSnapshot}
+use Rattle.snapshot_reader.specs.Said.{says, most_facts, distinct}
 use Rattle.snapshot_reader.specs.Cursor.{name_seen}
-use Rattle.snapshot_reader.proofs.FactsSaid.{says_unknown, says_misused, says_undeclared, says_too_many, says_facts}
+use Rattle.snapshot_reader.proofs.FactsSaid.{says_unknown, says_misused, says_undeclared, says_too_many, says_facts, distinct_sound}
 use Rattle.snapshot_reader.proofs.hearing.Heard.reading.Goals as goal
 
 pub returns-in-Some : goal.returns-in-Some
@@ -25,10 +26,12 @@ returns-then-self-gt-FACT_LIMIT c = λ o done h.
     says_too_many o done (sym h.unknown ∙ ap name_seen c.in_default.is) (sym h.misused ∙ ap name_seen c.in_default-misused.is)
     (sym h.undeclared ∙ ap name_seen c.in_default-undeclared.is) many
 
+pub new-requires-2 : goal.new-requires-2
+new-requires-2 c = subst IsSnapshot (sym c.in_ok-facts.ensures) (distinct_sound c.args.self.facts.items c.requires)
+
 pub returns : goal.returns
 returns c = λ o done h.
     let few : length done ≤ most_facts = omega (arith, h.count) in
-    let copied : c.in_ok-facts.facts.items ≡ c.as_slice.result.now = search (rules, same_from_all_zip) in
     says_facts o done (sym h.unknown ∙ ap name_seen c.in_default.is) (sym h.misused ∙ ap name_seen c.in_default-misused.is)
     (sym h.undeclared ∙ ap name_seen c.in_default-undeclared.is) few
-    ∙ ap says (sym (c.new-2.ensures ∙ copied ∙ c.as_slice.ensures.keys ∙ h.facts))
+    ∙ ap says (sym (c.new-2.ensures ∙ c.in_ok-facts.ensures ∙ ap distinct h.facts))

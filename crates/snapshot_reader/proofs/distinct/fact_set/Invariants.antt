@@ -1,0 +1,6 @@
+use Rattle.std.proofs.Common.{◌≡◌, take}
+use Rattle.snapshot_reader.specs.Said.{distinct}
+use Rattle.snapshot_reader.proofs.distinct.fact_set.Given as goal
+
+abbrev pub invariant-loop-fact : goal.invariant-loop-fact
+invariant-loop-fact l = l.set.keys ≡ distinct (take l.fact-index l.facts)
