@@ -161,6 +161,14 @@ fn finds_wrong_names(rt: HostRuntime) {
     assert!(rt;
         refuses(
             rt.alloc(),
+            b"query f () =\n[a(b)] ;",
+            2,
+            QueryKind::WrongKind
+        )
+    );
+    assert!(rt;
+        refuses(
+            rt.alloc(),
             b"query f () = [A(a), r(?x,\nA)] ;",
             2,
             QueryKind::Undeclared
@@ -200,6 +208,19 @@ fn finds_too_many(rt: HostRuntime) {
             QueryKind::TooMany
         )
     );
+}
+
+// As many queries as there may be.
+const SIXTEEN_QUERIES: &[u8] =
+    b"query a()=true;query b()=true;query c()=true;query d()=true;query e()=true;query f()=true;query g()=true;query h()=true;query i()=true;query j()=true;query k()=true;query l()=true;query m()=true;query n()=true;query o()=true;query p()=true;";
+
+#[test]
+fn counts_the_queries(rt: HostRuntime) {
+    assert!(rt; accepts(rt.alloc(), SIXTEEN_QUERIES));
+    let text = repeated(rt.alloc(), SIXTEEN_QUERIES, b"\nquery q()=true;", 1, b"").expect(
+        &rt, "memory",
+    );
+    assert!(rt; refuses(rt.alloc(), text.as_slice(), 2, QueryKind::TooMany));
 }
 
 #[test]
