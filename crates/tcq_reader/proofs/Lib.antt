@@ -8,3 +8,4 @@ pub mod HeadLemmas
 pub mod Acts
 pub mod KeepsLemmas
 pub mod ReadingLemmas
+pub mod WithinLemmas

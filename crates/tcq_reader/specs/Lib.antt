@@ -6,3 +6,4 @@ pub mod Building
 pub mod Drafting
 pub mod Acting
 pub mod Reading
+pub mod Laws

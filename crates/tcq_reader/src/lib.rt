@@ -3,6 +3,7 @@
 
 mod builder;
 mod faults;
+pub mod laws;
 mod leaf;
 mod names;
 mod reading;

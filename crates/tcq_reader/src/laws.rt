@@ -1,0 +1,8 @@
+//! Laws of what a query text says, each the contract of a function with nothing to do.
+ghost use Rattle.tcq_reader.specs.Laws.{SaidAreWithin};
+
+/// The queries that a text says name only what the ontology declares, and neither they nor their
+/// units over its individuals are more than may be.
+pub fn said_are_within()
+    ensures { SaidAreWithin }
+{}
