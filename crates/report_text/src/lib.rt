@@ -4,6 +4,10 @@
 mod item;
 mod line;
 mod numbers;
+mod query;
+#[cfg(test)]
+mod tests;
 
 pub use item::{Cause, Item};
 pub use line::{LineForm, append_answers, append_line, heading, render_line};
+pub use query::{append_cq, append_leaf, render_cq};

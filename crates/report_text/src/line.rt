@@ -117,7 +117,7 @@ pub fn append_answers(
 }
 
 /// Appends a word and two numbers after words.
-fn append_two(
+pub(crate) fn append_two(
     out: &mut Vec<u8>,
     before: &[u8],
     first: u64,
