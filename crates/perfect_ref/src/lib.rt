@@ -6,4 +6,4 @@ mod rewriting;
 mod rules;
 mod successors;
 
-pub use rewriting::{Core, RewriteFault, Rewriter, reach_count, rewrite, rewrite_core};
+pub use rewriting::{CountedRewriting, RewriteFault, Rewriter, reach_count, rewrite, rewrite_core};

@@ -26,19 +26,20 @@ pub enum RewriteFault {
     Memory,
 }
 
+/// Rewritings of a query, and how much was reached for them.
+#[derive(Debug, Drop)]
+pub struct CountedRewriting {
+    /// Distinct queries that name no hidden role, in an order of the call's choice.
+    pub members: Vec<Cq>,
+    /// How many queries are reachable, those with hidden roles counted too.
+    pub reached: u32,
+}
+
 /// What rewriting needs of an ontology, made once for many queries.
 #[derive(Drop)]
 pub struct Rewriter {
     roles: u32,
     rules: Rules,
-}
-
-/// The core of a query's rewriting.
-#[derive(Drop)]
-pub struct Core {
-    pub members: Vec<Cq>,
-    /// How many queries are reachable, those with hidden roles counted too.
-    pub reached: u32,
 }
 
 impl Model for Rewriter {
@@ -182,10 +183,32 @@ impl Rewriter {
         }
     }
 
+    /// The rewriting together with the count of the reachable queries, in one pass. The refusals are those of `rewrite`.
+    pub fn rewrite_counted(&self, cq: &Cq, room: u32) -> Result<CountedRewriting, RewriteFault>
+        requires { IsQuery cq.now }
+        ensures members { IfOk result (λ counted. Lists (PlainReachable self.now cq.now) counted.members.items) }
+        ensures count { IfOk result (λ counted. HoldsOf (Reachable self.now cq.now) counted.reached) }
+        ensures few { IfOk result (λ counted. counted.reached ≤ room) }
+        ensures within { IfOk result (λ _. HoldsOfMore (Reachable self.now cq.now) room → ⊥) }
+        ensures many { result ≡ Err RewriteFault.TooManyRewritings → HoldsOfMore (Reachable self.now cq.now) room }
+    {
+        match self.reach(cq, room) {
+            Ok(found) => {
+                let reached = found.len() as u32;
+                match plain_members(self.rules.alloc(), self.roles, found) {
+                    Ok(members) => Ok(CountedRewriting { members, reached }),
+                    Err(_) => Err(RewriteFault::Memory),
+                }
+            }
+            Err(fault) => Err(fault),
+        }
+    }
+
     /// How many queries are reachable, those with hidden roles counted too. `TooManyRewritings` comes exactly where they are more than `room`.
     pub fn reach_count(&self, cq: &Cq, room: u32) -> Result<u32, RewriteFault>
         requires { IsQuery cq.now }
         ensures count { IfOk result (λ count. HoldsOf (Reachable self.now cq.now) count) }
+        ensures few { IfOk result (λ count. count ≤ room) }
         ensures within { IfOk result (λ _. HoldsOfMore (Reachable self.now cq.now) room → ⊥) }
         ensures many { result ≡ Err RewriteFault.TooManyRewritings → HoldsOfMore (Reachable self.now cq.now) room }
     {
@@ -196,7 +219,7 @@ impl Rewriter {
     }
 
     /// The normalised query, and the reachable queries without hidden roles that a replacement by an inclusion with `some` on the right makes of a reachable one, each once, beside the count of all reachable queries. Over facts to which nothing can be added they give the answers. The refusals are those of `rewrite`.
-    pub fn counted_core(&self, cq: &Cq, room: u32) -> Result<Core, RewriteFault>
+    pub fn counted_core(&self, cq: &Cq, room: u32) -> Result<CountedRewriting, RewriteFault>
         requires query { IsQuery cq.now }
         requires plain { IsPlain self.now.roles cq.now }
         ensures members { IfOk result (λ core. Lists (PlainCore self.now cq.now) core.members.items) }
@@ -209,7 +232,7 @@ impl Rewriter {
             Ok(found) => match self.core(cq, found.as_slice()) {
                 Ok(members) => {
                     let reached = found.len() as u32;
-                    Ok(Core { members, reached })
+                    Ok(CountedRewriting { members, reached })
                 }
                 Err(_) => Err(RewriteFault::Memory),
             },
