@@ -1,1 +1,4 @@
 pub mod Derived
+pub mod Above
+pub mod Lists
+pub mod Implied
