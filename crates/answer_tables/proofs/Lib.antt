@@ -9,3 +9,8 @@ mod Counting
 mod Substitutions
 mod Spreads
 mod Widening
+mod Orders
+mod Marking
+mod Parts
+mod TupleRows
+mod Two

@@ -8,13 +8,13 @@ use Rattle.std.proofs.Math.Nat.{pow-le-pow_right, pow-suc, pow-zero, mul-le-mul_
 use Rattle.dl_syntax.specs.declared.names.IndId.{IndId}
 use Rattle.answer_tables.specs.Tuples.{IsTuple, number, with_first, tuples}
 
-abbrev Digits : ℕ → List IndId → Type 0
+abbrev pub Digits : ℕ → List IndId → Type 0
 Digits slots row = All (λ (i : IndId). i.0 < slots) row
 
-tail_digits : (slots : ℕ) (i : IndId) (row : List IndId) → Digits slots (i ∷ row) → Digits slots row
+pub tail_digits : (slots : ℕ) (i : IndId) (row : List IndId) → Digits slots (i ∷ row) → Digits slots row
 tail_digits slots i row digits k d l = digits (suc k) d (omega (arith, l))
 
-head_digit : (slots : ℕ) (i : IndId) (row : List IndId) → Digits slots (i ∷ row) → i.0 < slots
+pub head_digit : (slots : ℕ) (i : IndId) (row : List IndId) → Digits slots (i ∷ row) → i.0 < slots
 head_digit slots i row digits = digits zero i (omega arith)
 
 pub digits_cons : (slots : ℕ) (i : IndId) (row : List IndId) → i.0 < slots → Digits slots row → Digits slots (i ∷ row)

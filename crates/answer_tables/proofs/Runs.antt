@@ -185,3 +185,21 @@ Rest-inside runs i start total e rest within from below = record {
 -- with nothing left
 pub Rest-end : (runs : List Run) (i start total : ℕ) → Rest runs i start total → length runs ≤ i → start ≡ total
 Rest-end runs i start total rest past = sym (ap (end_from start) (drop_all i runs past)) ∙ rest.ends
+
+-- each run's number stands at some rank
+pub run_number : (start : ℕ) (runs : List Run) (i : ℕ) → RiseFrom start runs → i < length runs → (n : ℕ) × (start ≤ n) × (n < end_from start runs) × (link_at runs n ≡ (run_at runs i).link)
+run_number start [] i rise within = absurd (omega (arith, within))
+run_number start (x ∷ rs) zero rise within = let less = rise.0 in let far = end_from-above x.end rs rise.1 in (start, omega arith, omega (arith, less, far), link_at-here x rs start less)
+run_number start (x ∷ rs) (suc i) rise within =
+    let rest = run_number x.end rs i rise.1 (omega (arith, within)) in
+    let from = rest.1 in
+    let less = rise.0 in (rest.0, omega (arith, from, less), rest.2, link_at-past x rs rest.0 from ∙ rest.3)
+
+-- the number at a rank is some run's
+pub number_run : (start : ℕ) (runs : List Run) (n : ℕ) → n < end_from start runs → start ≤ n → (i : ℕ) × (i < length runs) × ((run_at runs i).link ≡ link_at runs n)
+number_run start [] n below from = absurd (omega (arith, below, from))
+number_run start (x ∷ rs) n below from = go (cases_lt n x.end) (λ past. number_run x.end rs n below past)
+  where
+    go : (n < x.end) ⊎ (x.end ≤ n) → (x.end ≤ n → (i : ℕ) × (i < length rs) × ((run_at rs i).link ≡ link_at rs n)) → (i : ℕ) × (i < length (x ∷ rs)) × ((run_at (x ∷ rs) i).link ≡ link_at (x ∷ rs) n)
+    go (inl here) later = (zero, omega arith, sym (link_at-here x rs n here))
+    go (inr past) later = let rest = later past in let within = rest.1 in (suc rest.0, omega (arith, within), rest.2 ∙ sym (link_at-past x rs n past))

@@ -8,3 +8,4 @@ pub mod Combining
 pub mod Counts
 pub mod Substituting
 pub mod Spreading
+pub mod Marks

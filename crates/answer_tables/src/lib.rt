@@ -4,14 +4,19 @@
 mod align;
 mod combine;
 mod counts;
+
+mod marks;
 mod renaming;
 mod run;
 mod spread;
 mod substitute;
 mod table;
+mod true_at;
 mod widen;
 
 pub use combine::{combine_and, combine_or};
 pub use counts::from_runs;
+
 pub use substitute::substitute_all;
 pub use table::{Table, fill};
+pub use true_at::from_tuples;

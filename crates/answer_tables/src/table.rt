@@ -32,7 +32,7 @@ impl Model for Table {
 }
 
 /// How many tuples come before this one.
-fn number_of(slots: u32, tuple: &[IndId]) -> u64
+pub fn number_of(slots: u32, tuple: &[IndId]) -> u64
     requires below { All (λ i. i.0 < slots) tuple.now }
     requires few { slots ^ length tuple.now ≤ 2 ^ 60 }
     ensures { result ≡ number slots tuple.now }
