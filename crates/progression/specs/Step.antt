@@ -1,0 +1,101 @@
+-- One step of a query at one row: which sets of future nodes each node holds under, after one more snapshot.
+use Rattle.std.specs.Prelude.{◌≡◌, ℕ, ◌-◌, ◌<◌, ◌^◌, ◌↔◌, ◌&&◌, ◌||◌, not, Bool, true, false, List, [], length, Some, slice_get, slice_index_or}
+use Rattle.dl_syntax.specs.declared.names.IndId.{IndId}
+use Rattle.dl_syntax.specs.declared.ontology.Inclusion.{Inclusion}
+use Rattle.tcq_syntax.specs.declared.nodes.Node.{Node}
+use Rattle.tcq_syntax.specs.declared.nodes.Node.TheVariants as node
+use Rattle.tcq_syntax.specs.Formula.{Formula, False, Since, Once, Historically, Next, WeakNext, Until, Eventually, Always, is_future, formula_at, number_at}
+use Rattle.tcq_syntax.specs.Histories.{History}
+use Rattle.tcq_syntax.specs.Time.{LeafHolds}
+use Rattle.tcq_syntax.specs.End.{EndHolds}
+use Rattle.tcq_syntax.specs.Laws.{granted_place}
+use Rattle.antichains.specs.Sets.{is_inside, holds}
+use Rattle.antichains.specs.Chain.{IsChain}
+
+-- the chain holds of exactly the sets under which the formula holds at the last position
+pub record Stands (inclusions : List Inclusion) (history : History) (row : List IndId) (f : Formula) (sets : List ℕ) : Type 0 where
+  pub chain : IsChain sets
+  pub same : (v : ℕ) → v < 256 → (holds sets v ≡ true) ↔ EndHolds inclusions history v row f (length history.snapshots - 1)
+
+-- what a node asks besides its children: whether the row answers its leaf, whether the node itself is granted, what
+-- the chain of its kept node says at the position before, where there is one
+abbrev pub own_test : Bool → ℕ → (ℕ → Bool) → Bool → Node → ℕ → Bool
+own_test first number before leaf node.True v = true
+own_test first number before leaf node.False v = false
+own_test first number before leaf (node.Leaf q) v = leaf
+own_test first number before leaf (node.And f g) v = false
+own_test first number before leaf (node.Or f g) v = false
+own_test first number before leaf (node.Next f) v = is_inside (2 ^ number) v
+own_test first number before leaf (node.WeakNext f) v = is_inside (2 ^ number) v
+own_test first number before leaf (node.Prev f) v = not first && before v
+own_test first number before leaf (node.WeakPrev f) v = first || before v
+own_test first number before leaf (node.Until f g) v = is_inside (2 ^ number) v
+own_test first number before leaf (node.Since f g) v = not first && before v
+own_test first number before leaf (node.Eventually f) v = is_inside (2 ^ number) v
+own_test first number before leaf (node.Always f) v = is_inside (2 ^ number) v
+own_test first number before leaf (node.Once f) v = not first && before v
+own_test first number before leaf (node.Historically f) v = first || before v
+
+-- whether the node holds under a set, by its children's chains and what it asks besides
+abbrev pub joined : (ℕ → List ℕ) → (ℕ → Bool) → Node → ℕ → Bool
+joined child own (node.And f g) v = holds (child f) v && holds (child g) v
+joined child own (node.Or f g) v = holds (child f) v || holds (child g) v
+joined child own (node.Until f g) v = holds (child g) v || (holds (child f) v && own v)
+joined child own (node.Since f g) v = holds (child g) v || (holds (child f) v && own v)
+joined child own (node.Eventually f) v = holds (child f) v || own v
+joined child own (node.Once f) v = holds (child f) v || own v
+joined child own (node.Always f) v = holds (child f) v && own v
+joined child own (node.Historically f) v = holds (child f) v && own v
+joined child own _ v = own v
+
+abbrev pub node_test : Bool → ℕ → (ℕ → List ℕ) → (ℕ → Bool) → Bool → Node → ℕ → Bool
+node_test first number child before leaf n v = joined child (own_test first number before leaf n) n v
+
+abbrev pub is_past : Node → Bool
+is_past (node.Prev f) = true
+is_past (node.WeakPrev f) = true
+is_past (node.Since f g) = true
+is_past (node.Once f) = true
+is_past (node.Historically f) = true
+is_past _ = false
+
+-- the formula of the kept node that a past node asks
+abbrev pub kept_formula : (ℕ → Formula) → Node → Formula
+kept_formula child (node.Prev f) = child f
+kept_formula child (node.WeakPrev f) = child f
+kept_formula child (node.Since f g) = Since (child f) (child g)
+kept_formula child (node.Once f) = Once (child f)
+kept_formula child (node.Historically f) = Historically (child f)
+kept_formula child _ = False
+
+-- the place of the kept node that a past node asks
+abbrev pub kept_place : ℕ → Node → ℕ
+kept_place place (node.Prev f) = f
+kept_place place (node.WeakPrev f) = f
+kept_place place _ = place
+
+-- the chain of each node below the count stands for its formula
+abbrev pub AllStand : List Inclusion → History → List IndId → List Node → ℕ → (ℕ → List ℕ) → Type 0
+AllStand inclusions history row nodes count chain = (place : ℕ) → place < count → Stands inclusions history row (formula_at nodes place) (chain place)
+
+-- the value of each future node below the count is what is at the place of the node that is granted with it
+abbrev pub AllGranted : {X : Type 0} → X → List Node → ℕ → (ℕ → X) → List X → Type 0
+AllGranted none nodes count at values = (place : ℕ) (n : Node) → place < count → slice_get nodes place ≡ Some n → is_future n ≡ true → slice_index_or values (number_at nodes place) none ≡ at (granted_place place n)
+
+-- the answer is the leaf's, if the node is one
+abbrev pub LeafIs : List Inclusion → History → List IndId → ℕ → Bool → Node → Type 0
+LeafIs inclusions history row i leaf (node.Leaf q) = (leaf ≡ true) ↔ LeafHolds inclusions history row q i
+LeafIs inclusions history row i leaf _ = Unit {0}
+
+-- at each place that a past node asks, if there is a position, the kept chain stands for the formula
+abbrev pub KeptStands : List Inclusion → History → List IndId → List Node → (ℕ → List ℕ) → Type 0
+KeptStands inclusions history row nodes old = (place : ℕ) (n : Node) → slice_get nodes place ≡ Some n → is_past n ≡ true → 0 < length history.snapshots → Stands inclusions history row (formula_at nodes (kept_place place n)) (old (kept_place place n))
+
+-- the number of a future formula is below the limit
+abbrev pub HasNumberBelow : ℕ → Formula → Type 0
+HasNumberBelow limit (Next number f) = number < limit
+HasNumberBelow limit (WeakNext number f) = number < limit
+HasNumberBelow limit (Until number f g) = number < limit
+HasNumberBelow limit (Eventually number f) = number < limit
+HasNumberBelow limit (Always number f) = number < limit
+HasNumberBelow limit _ = Unit {0}

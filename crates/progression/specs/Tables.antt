@@ -1,0 +1,67 @@
+-- One step of a query, with a table for each node in place of a chain.
+use Rattle.std.specs.Prelude.{◌≡◌, ℕ, ◌+◌, ◌<◌, nat_eq, if◌then◌else◌, Bool, true, false, Option, Some, None, List, [], ◌∷◌, length, map, slice_get, slice_index_or}
+use Rattle.std.specs.List.{list_any}
+use Rattle.dl_syntax.specs.declared.names.IndId.{IndId}
+use Rattle.dl_syntax.specs.declared.queries.Cq.{Cq}
+use Rattle.dl_syntax.specs.Rows.{Relation}
+use Rattle.tcq_syntax.specs.declared.nodes.Node.{Node}
+use Rattle.tcq_syntax.specs.declared.nodes.Node.TheVariants as node
+use Rattle.tcq_syntax.specs.Time.{part_of}
+use Rattle.antichains.specs.Sets.{holds}
+use Rattle.antichains.specs.Chain.{IsMinimal, values_at}
+use Rattle.answer_tables.specs.Tuples.{IsTuple}
+use Rattle.answer_tables.specs.Table.{Chains, at, same_tuple}
+use Rattle.answer_tables.specs.Combining.{LinksAreIn}
+use Rattle.answer_tables.specs.Substituting.{chains_at}
+use Rattle.progression.specs.Step.{kept_place, node_test}
+
+-- the table that stands where there is none: it holds nowhere
+abbrev pub no_table : Chains
+no_table = record { slots = 0; arity = 0; default = None; exceptions = [] }
+
+abbrev pub table_at : List Chains → ℕ → Chains
+table_at tables place = slice_index_or tables place no_table
+
+-- the table kept for a place
+abbrev pub kept_table : List (ℕ × Chains) → ℕ → Chains
+kept_table [] place = no_table
+kept_table (entry ∷ kept) place = (if nat_eq entry.0 place then entry.1 else kept_table kept place)
+
+-- the table has, at each tuple, the minimal sets of the tuple's test, and its chains are in the list
+pub record Tabulates (slots arity : ℕ) (test : List IndId → ℕ → Bool) (list : List (List ℕ)) (table : Chains) : Type 0 where
+  pub slots_are : table.slots ≡ slots
+  pub arity_is : table.arity ≡ arity
+  pub each : (tuple : List IndId) → IsTuple slots arity tuple → IsMinimal (test tuple) (at table tuple)
+  pub stored : LinksAreIn table list
+
+-- whether the tuple's part on the answer variables of the leaf is one of the rows
+abbrev pub has_part : List (List IndId) → Cq → List IndId → Bool
+has_part rows q tuple = list_any (same_tuple (part_of tuple q.head)) rows
+
+-- the leaves of a table in order
+abbrev pub leaves_of : List Node → List Cq
+leaves_of [] = []
+leaves_of (node.Leaf q ∷ nodes) = q ∷ leaves_of nodes
+leaves_of (_ ∷ nodes) = leaves_of nodes
+
+abbrev pub relation_at : List Relation → ℕ → Relation
+relation_at relations number = slice_index_or relations number (record { arity = 0; rows = [] })
+
+-- whether the tuple answers the node's leaf, which has this number among the leaves, if the node is one
+abbrev pub leaf_test : List Relation → ℕ → Node → List IndId → Bool
+leaf_test relations number (node.Leaf q) tuple = has_part (relation_at relations number).rows q tuple
+leaf_test relations number _ tuple = false
+
+-- if the node is a leaf, there is a relation with its number, and it is over the leaf's variables
+abbrev pub HasLeaf : List Relation → ℕ → Node → Type 0
+HasLeaf relations number (node.Leaf q) = (number < length relations) × ((relation_at relations number).arity ≡ length q.head)
+HasLeaf relations number _ = Unit {0}
+
+-- what the kept table that a node asks says at a tuple, where each future node has this value
+abbrev pub before_test : List (ℕ × Chains) → ℕ → List Chains → Node → List IndId → ℕ → Bool
+before_test kept place values n tuple v = holds (at (kept_table kept (kept_place place n)) tuple) (values_at (chains_at values tuple) v)
+
+-- whether the node at the place holds of a tuple under a set, by the tables before it
+abbrev pub step_test : Bool → List (ℕ × Chains) → List Relation → ℕ → ℕ → List Chains → List Chains → Node → List IndId → ℕ → Bool
+step_test first kept relations leaf place tables values n tuple v =
+    node_test first (length values) (λ c. at (table_at tables c) tuple) (before_test kept place values n tuple) (leaf_test relations leaf n tuple) n v
