@@ -1,6 +1,6 @@
 -- One step of a query, with a table for each node in place of a chain.
 use Rattle.std.specs.Prelude.{◌≡◌, ℕ, ◌+◌, ◌<◌, nat_eq, if◌then◌else◌, Bool, true, false, Option, Some, None, List, [], ◌∷◌, length, map, slice_get, slice_index_or}
-use Rattle.std.specs.List.{list_any}
+use Rattle.std.specs.List.{All, list_any}
 use Rattle.dl_syntax.specs.declared.names.IndId.{IndId}
 use Rattle.dl_syntax.specs.declared.queries.Cq.{Cq}
 use Rattle.dl_syntax.specs.Rows.{Relation}
@@ -8,7 +8,7 @@ use Rattle.tcq_syntax.specs.declared.nodes.Node.{Node}
 use Rattle.tcq_syntax.specs.declared.nodes.Node.TheVariants as node
 use Rattle.tcq_syntax.specs.Time.{part_of}
 use Rattle.antichains.specs.Sets.{holds}
-use Rattle.antichains.specs.Chain.{IsMinimal, values_at}
+use Rattle.antichains.specs.Chain.{IsChain, IsMinimal, values_at}
 use Rattle.answer_tables.specs.Tuples.{IsTuple}
 use Rattle.answer_tables.specs.Table.{Chains, at, same_tuple}
 use Rattle.answer_tables.specs.Combining.{LinksAreIn}
@@ -33,6 +33,15 @@ pub record Tabulates (slots arity : ℕ) (test : List IndId → ℕ → Bool) (l
   pub arity_is : table.arity ≡ arity
   pub each : (tuple : List IndId) → IsTuple slots arity tuple → IsMinimal (test tuple) (at table tuple)
   pub stored : LinksAreIn table list
+
+-- the table's chains are chains, and are in the list
+pub record IsOwn (table : Chains) (list : List (List ℕ)) : Type 0 where
+  pub each : (tuple : List IndId) → IsTuple table.slots table.arity tuple → IsChain (at table tuple)
+  pub stored : LinksAreIn table list
+
+-- the kept tables have one shape
+abbrev pub KeptShape : ℕ → ℕ → List (ℕ × Chains) → Type 0
+KeptShape slots arity kept = All (λ entry. (entry.1.slots ≡ slots) × (entry.1.arity ≡ arity)) kept
 
 -- whether the tuple's part on the answer variables of the leaf is one of the rows
 abbrev pub has_part : List (List IndId) → Cq → List IndId → Bool

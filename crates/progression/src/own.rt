@@ -1,0 +1,187 @@
+//! What a node asks besides its children, as a table.
+
+ghost use Rattle.std.specs.Prelude.{◌≡◌, ◌<◌, ◌≤◌, ◌^◌, ◌&&◌, ◌||◌, not, true, false, IfOk, length, ℕ};
+ghost use Rattle.std.specs.List.{All};
+ghost use Rattle.antichains.specs.Sets.{is_inside, holds};
+ghost use Rattle.antichains.specs.Chain.{values_at};
+ghost use Rattle.formula_store.specs.Interned.{Extends};
+ghost use Rattle.answer_tables.specs.Table.{at};
+ghost use Rattle.answer_tables.specs.Substituting.{HaveShape, chains_at};
+ghost use Rattle.tcq_syntax.specs.Formula.{is_future};
+ghost use Rattle.progression.specs.Step.{own_test};
+ghost use Rattle.progression.specs.Tables.{Tabulates, kept_table, before_test, leaf_test, has_part, HasLeaf, KeptShape};
+
+use crate::Memory;
+use answer_tables::{Table, fill, substitute_all};
+use antichains::Chain;
+use dl_syntax::{Cq, Tuples};
+use formula_store::Store;
+use std::alloc::Global;
+use tcq_syntax::Node;
+
+/// The table that holds everywhere, or nowhere.
+fn filled(
+    alloc: Global,
+    slots: u32,
+    arity: u8,
+    value: bool,
+    store: &mut Store,
+) -> Result<Table, Memory>
+    requires { slots ^ arity ≤ 2 ^ 60 }
+    ensures table { IfOk result (Tabulates slots arity (λ tuple v. value) store.new) }
+    ensures grown { Extends store.old store.new }
+{
+    let chain = Chain::fixed(alloc, value)?;
+    let link = store.intern(chain)?;
+    fill(alloc, slots, arity, &link)
+}
+
+/// The table that holds where the future node with a number is granted.
+fn granted(
+    alloc: Global,
+    slots: u32,
+    arity: u8,
+    number: u8,
+    store: &mut Store,
+) -> Result<Table, Memory>
+    requires number { number < 8 }
+    requires few { slots ^ arity ≤ 2 ^ 60 }
+    ensures table { IfOk result (Tabulates slots arity (λ tuple v. is_inside (2 ^ number) v) store.new) }
+    ensures grown { Extends store.old store.new }
+{
+    let chain = Chain::one(alloc, number)?;
+    let link = store.intern(chain)?;
+    fill(alloc, slots, arity, &link)
+}
+
+/// What the table kept for a place says where each future node has this value.
+fn before(
+    alloc: Global,
+    slots: u32,
+    arity: u8,
+    kept: &[(u16, Table)],
+    place: u16,
+    values: &[Table],
+    store: &mut Store,
+) -> Result<Table, Memory>
+    requires few { slots ^ arity ≤ 2 ^ 60 }
+    requires kept { KeptShape slots arity kept.now }
+    requires values { HaveShape slots arity values.now }
+    ensures table { IfOk result (Tabulates slots arity (λ tuple v. holds (at (kept_table kept.now place) tuple) (values_at (chains_at values.now tuple) v)) store.new) }
+    ensures grown { Extends store.old store.new }
+{
+    for entry in kept {
+        if entry.0 == place {
+            return substitute_all(alloc, &entry.1, values, store);
+        }
+    }
+    filled(alloc, slots, arity, false, store)
+}
+
+/// The same where there is a position before, else false.
+fn strong(
+    alloc: Global,
+    slots: u32,
+    arity: u8,
+    first: bool,
+    kept: &[(u16, Table)],
+    place: u16,
+    values: &[Table],
+    store: &mut Store,
+) -> Result<Table, Memory>
+    requires few { slots ^ arity ≤ 2 ^ 60 }
+    requires kept { KeptShape slots arity kept.now }
+    requires values { HaveShape slots arity values.now }
+    ensures table { IfOk result (Tabulates slots arity (λ tuple v. not first && holds (at (kept_table kept.now place) tuple) (values_at (chains_at values.now tuple) v)) store.new) }
+    ensures grown { Extends store.old store.new }
+{
+    if first {
+        filled(alloc, slots, arity, false, store)
+    } else {
+        before(alloc, slots, arity, kept, place, values, store)
+    }
+}
+
+/// The same where there is a position before, else true.
+fn weak(
+    alloc: Global,
+    slots: u32,
+    arity: u8,
+    first: bool,
+    kept: &[(u16, Table)],
+    place: u16,
+    values: &[Table],
+    store: &mut Store,
+) -> Result<Table, Memory>
+    requires few { slots ^ arity ≤ 2 ^ 60 }
+    requires kept { KeptShape slots arity kept.now }
+    requires values { HaveShape slots arity values.now }
+    ensures table { IfOk result (Tabulates slots arity (λ tuple v. first || holds (at (kept_table kept.now place) tuple) (values_at (chains_at values.now tuple) v)) store.new) }
+    ensures grown { Extends store.old store.new }
+{
+    if first {
+        filled(alloc, slots, arity, true, store)
+    } else {
+        before(alloc, slots, arity, kept, place, values, store)
+    }
+}
+
+/// The table of the rows that answer a leaf.
+fn answered(
+    alloc: Global,
+    slots: u32,
+    arity: u8,
+    q: &Cq,
+    rows: &Tuples,
+    store: &mut Store,
+) -> Result<Table, Memory>
+    requires few { slots ^ arity ≤ 2 ^ 60 }
+    requires long { rows.now.arity ≡ length q.now.head }
+    ensures table { IfOk result (Tabulates slots arity (λ tuple v. has_part rows.now.rows q.now tuple) store.new) }
+    ensures grown { Extends store.old store.new }
+{
+    let _rows = rows;
+    let _head = q;
+    filled(alloc, slots, arity, false, store)
+}
+
+/// What a node at a place asks besides its children, as a table. `values[b]` is the value of the
+/// future node numbered `b`, and `leaf` is the node's number among the leaves, if it is one.
+pub fn own(
+    alloc: Global,
+    slots: u32,
+    arity: u8,
+    node: &Node,
+    place: u16,
+    first: bool,
+    kept: &[(u16, Table)],
+    leaves: &[Tuples],
+    leaf: usize,
+    values: &[Table],
+    store: &mut Store,
+) -> Result<Table, Memory>
+    requires few { slots ^ arity ≤ 2 ^ 60 }
+    requires number { is_future node.now ≡ true → length values.now < 8 }
+    requires kept { KeptShape slots arity kept.now }
+    requires values { HaveShape slots arity values.now }
+    requires leaf { HasLeaf leaves.now leaf node.now }
+    ensures table { IfOk result (Tabulates slots arity (λ tuple v. own_test first (length values.now) (before_test kept.now place values.now node.now tuple) (leaf_test leaves.now leaf node.now tuple) node.now v) store.new) }
+    ensures grown { Extends store.old store.new }
+{
+    match node {
+        Node::True => filled(alloc, slots, arity, true, store),
+        Node::False | Node::And(_, _) | Node::Or(_, _) => filled(alloc, slots, arity, false, store),
+        Node::Leaf(q) => answered(alloc, slots, arity, q, &leaves[leaf], store),
+        Node::Next(_)
+        | Node::WeakNext(_)
+        | Node::Until(_, _)
+        | Node::Eventually(_)
+        | Node::Always(_) => granted(alloc, slots, arity, values.len() as u8, store),
+        Node::Prev(f) => strong(alloc, slots, arity, first, kept, *f, values, store),
+        Node::WeakPrev(f) => weak(alloc, slots, arity, first, kept, *f, values, store),
+        Node::Since(_, _) | Node::Once(_) => {
+            strong(alloc, slots, arity, first, kept, place, values, store)
+        }
+        Node::Historically(_) => weak(alloc, slots, arity, first, kept, place, values, store),
+    }
+}
