@@ -16,17 +16,17 @@ use Rattle.tcq_syntax.specs.End.{EndHolds, Has}
 use Rattle.antichains.specs.Sets.{is_inside, holds}
 use Rattle.progression.specs.Step.{node_test, is_past, kept_formula, LeafIs}
 
-true-false : true ≡ false → ⊥
+pub true-false : true ≡ false → ⊥
 true-false h = cc
 
 pub or_cases : (a b : Bool) → (a || b) ≡ true → (a ≡ true) ⊎ (b ≡ true)
 or_cases true b h = inl refl
 or_cases false b h = inr h
 
-or_left : (a b : Bool) → a ≡ true → (a || b) ≡ true
+pub or_left : (a b : Bool) → a ≡ true → (a || b) ≡ true
 or_left a b h = ap (λ x. x || b) h
 
-or_right : (a b : Bool) → b ≡ true → (a || b) ≡ true
+pub or_right : (a b : Bool) → b ≡ true → (a || b) ≡ true
 or_right true b h = refl
 or_right false b h = h
 
@@ -34,7 +34,7 @@ pub and_cases : (a b : Bool) → (a && b) ≡ true → (a ≡ true) × (b ≡ tr
 and_cases true b h = (refl, h)
 and_cases false b h = absurd (true-false (sym h))
 
-and_both : (a b : Bool) → a ≡ true → b ≡ true → (a && b) ≡ true
+pub and_both : (a b : Bool) → a ≡ true → b ≡ true → (a && b) ≡ true
 and_both a b h k = ap (λ x. x && b) h ∙ k
 
 not_true : (a : Bool) → not a ≡ true → a ≡ false

@@ -1,5 +1,6 @@
 -- One step of a query at one row: which sets of future nodes each node holds under, after one more snapshot.
 use Rattle.std.specs.Prelude.{◌≡◌, ℕ, ◌-◌, ◌<◌, ◌^◌, ◌↔◌, ◌&&◌, ◌||◌, not, Bool, true, false, List, [], length, Some, slice_get, slice_index_or}
+use Rattle.std.specs.List.{All}
 use Rattle.dl_syntax.specs.declared.names.IndId.{IndId}
 use Rattle.dl_syntax.specs.declared.ontology.Inclusion.{Inclusion}
 use Rattle.tcq_syntax.specs.declared.nodes.Node.{Node}
@@ -7,7 +8,7 @@ use Rattle.tcq_syntax.specs.declared.nodes.Node.TheVariants as node
 use Rattle.tcq_syntax.specs.Formula.{Formula, False, Since, Once, Historically, Next, WeakNext, Until, Eventually, Always, is_future, formula_at, number_at}
 use Rattle.tcq_syntax.specs.Histories.{History}
 use Rattle.tcq_syntax.specs.Time.{LeafHolds}
-use Rattle.tcq_syntax.specs.End.{EndHolds}
+use Rattle.tcq_syntax.specs.End.{EndHolds, Inside, future_set}
 use Rattle.tcq_syntax.specs.Laws.{granted_place}
 use Rattle.antichains.specs.Sets.{is_inside, holds}
 use Rattle.antichains.specs.Chain.{IsChain}
@@ -81,6 +82,14 @@ AllStand inclusions history row nodes count chain = (place : ℕ) → place < co
 -- the value of each future node below the count is what is at the place of the node that is granted with it
 abbrev pub AllGranted : {X : Type 0} → X → List Node → ℕ → (ℕ → X) → List X → Type 0
 AllGranted none nodes count at values = (place : ℕ) (n : Node) → place < count → slice_get nodes place ≡ Some n → is_future n ≡ true → slice_index_or values (number_at nodes place) none ≡ at (granted_place place n)
+
+-- the sets have no other members
+abbrev pub OwnIn : ℕ → List ℕ → Type 0
+OwnIn own sets = All (λ set. Inside set own) sets
+
+-- the sets of each node below the count have only future nodes of its own part of the formula
+abbrev pub AllOwn : List Node → ℕ → (ℕ → List ℕ) → Type 0
+AllOwn nodes count chain = (place : ℕ) → place < count → OwnIn (future_set (formula_at nodes place)) (chain place)
 
 -- the answer is the leaf's, if the node is one
 abbrev pub LeafIs : List Inclusion → History → List IndId → ℕ → Bool → Node → Type 0
