@@ -49,7 +49,7 @@ AllStand-push inclusions history row nodes count old new same before next place 
   | inr late ↦ let is : count ≡ place = omega arith in subst (λ (p : ℕ). Stands inclusions history row (formula_at nodes p) (new p)) is next
 ]
 
-granted_place-le : (place : ℕ) (m : Node) → HasChildrenBelow place m → granted_place place m ≤ place
+pub granted_place-le : (place : ℕ) (m : Node) → HasChildrenBelow place m → granted_place place m ≤ place
 granted_place-le place (node.Next f) below = omega arith
 granted_place-le place (node.WeakNext f) below = omega arith
 granted_place-le place _ below = omega arith

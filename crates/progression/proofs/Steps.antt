@@ -30,6 +30,15 @@ around A B p = (p.1, p.0)
 same_tests : (a b : Bool) → a ≡ b → (a ≡ true) ↔ (b ≡ true)
 same_tests a b e = (λ h. sym e ∙ h, λ h. e ∙ h)
 
+-- the formula of the place that a past node asks
+pub asked : (nodes : List Node) (table : IsTable nodes) (place : ℕ) (m : Node) → slice_get nodes place ≡ Some m → is_past m ≡ true → formula_at nodes (kept_place place m) ≡ kept_formula (formula_at nodes) m
+asked nodes table place (node.Prev f) at past = refl
+asked nodes table place (node.WeakPrev f) at past = refl
+asked nodes table place (node.Since f g) at past = formula_at-node nodes table place (node.Since f g) at
+asked nodes table place (node.Once f) at past = formula_at-node nodes table place (node.Once f) at
+asked nodes table place (node.Historically f) at past = formula_at-node nodes table place (node.Historically f) at
+asked nodes table place _ at past = absurd (false≢true past)
+
 module _ (inclusions : List Inclusion) (history : History) (snapshot : List Fact) (row : List IndId) (nodes : List Node) (table : IsTable nodes) where
   abbrev grown : History
   grown = with_snapshot snapshot history
@@ -49,15 +58,6 @@ module _ (inclusions : List Inclusion) (history : History) (snapshot : List Fact
   -- what a chain of the new history says at its last position
   stands_at : (f : Formula) (sets : List ℕ) → Stands inclusions grown row f sets → (v : ℕ) → v < 256 → (holds sets v ≡ true) ↔ New v f n
   stands_at f sets stands v small = subst (λ (i : ℕ). (holds sets v ≡ true) ↔ New v f i) end (stands.same v small)
-
-  -- the formula of the place that a past node asks
-  asked : (place : ℕ) (m : Node) → slice_get nodes place ≡ Some m → is_past m ≡ true → formula_at nodes (kept_place place m) ≡ kept_formula (formula_at nodes) m
-  asked place (node.Prev f) at past = refl
-  asked place (node.WeakPrev f) at past = refl
-  asked place (node.Since f g) at past = formula_at-node nodes table place (node.Since f g) at
-  asked place (node.Once f) at past = formula_at-node nodes table place (node.Once f) at
-  asked place (node.Historically f) at past = formula_at-node nodes table place (node.Historically f) at
-  asked place _ at past = absurd (false≢true past)
 
   module _ (count : ℕ) (chain : ℕ → List ℕ) (values : List (List ℕ)) (stand : AllStand inclusions grown row nodes count chain) (granted : AllGranted [] nodes count chain values) (v : ℕ) (small : v < 256) where
     abbrev Granted : Formula → Type 0
@@ -89,7 +89,7 @@ module _ (inclusions : List Inclusion) (history : History) (snapshot : List Fact
     before_exact m at few old stands past later =
         let less : values_at values v < 256 = omega (arith, values_at-below values v, let up : 2 ^ length values ≤ 2 ^ 8 = pow_mono few in up) in
         let first : (holds old (values_at values v) ≡ true) ↔ EndHolds inclusions history (values_at values v) row (formula_at nodes (kept_place count m)) (n - 1) = stands.same (values_at values v) less in
-        let second : (holds old (values_at values v) ≡ true) ↔ EndHolds inclusions history (values_at values v) row (kept_formula (formula_at nodes) m) (n - 1) = subst (λ (f : Formula). (holds old (values_at values v) ≡ true) ↔ EndHolds inclusions history (values_at values v) row f (n - 1)) (asked count m at past) first in
+        let second : (holds old (values_at values v) ≡ true) ↔ EndHolds inclusions history (values_at values v) row (kept_formula (formula_at nodes) m) (n - 1) = subst (λ (f : Formula). (holds old (values_at values v) ≡ true) ↔ EndHolds inclusions history (values_at values v) row f (n - 1)) (asked nodes table count m at past) first in
         through _ _ _ second (around _ _ (progression inclusions history snapshot row v (values_at values v) (kept_formula (formula_at nodes) m)
         (EachFuture-kept Granted nodes table count granted_at m (table count m at)) (n - 1) (omega arith)))
 

@@ -34,7 +34,7 @@ module _ (slots arity : ℕ) (test : ℕ → Bool) (chain link : List ℕ) (old 
   Tabulates-filled (Ok t) slots_are arity_is each = Tabulates-one t slots_are arity_is each
   Tabulates-filled (Err e) slots_are arity_is each = tt
 
-none_is : (tuple : List IndId) → [] ≡ at no_table tuple
+pub none_is : (tuple : List IndId) → [] ≡ at no_table tuple
 unfolding at
 none_is tuple = refl
 

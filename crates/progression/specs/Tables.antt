@@ -1,19 +1,25 @@
 -- One step of a query, with a table for each node in place of a chain.
-use Rattle.std.specs.Prelude.{◌≡◌, ℕ, ◌+◌, ◌<◌, nat_eq, if◌then◌else◌, Bool, true, false, Option, Some, None, List, [], ◌∷◌, length, map, slice_get, slice_index_or}
-use Rattle.std.specs.List.{All, list_any}
+use Rattle.std.specs.Prelude.{◌≡◌, ℕ, ◌<◌, ◌↔◌, nat_eq, if◌then◌else◌, Bool, true, false, None, Some, List, [], ◌∷◌, ◌++◌, length, map, take, slice_get, slice_index_or}
+use Rattle.std.specs.List.{All, count_by, list_any}
 use Rattle.dl_syntax.specs.declared.names.IndId.{IndId}
+use Rattle.dl_syntax.specs.declared.facts.Fact.{Fact}
+use Rattle.dl_syntax.specs.declared.ontology.Inclusion.{Inclusion}
 use Rattle.dl_syntax.specs.declared.queries.Cq.{Cq}
 use Rattle.dl_syntax.specs.Rows.{Relation}
 use Rattle.tcq_syntax.specs.declared.nodes.Node.{Node}
 use Rattle.tcq_syntax.specs.declared.nodes.Node.TheVariants as node
+use Rattle.tcq_syntax.specs.Formula.{is_future, formula_at}
+use Rattle.tcq_syntax.specs.Histories.{History, with_snapshot}
 use Rattle.tcq_syntax.specs.Time.{part_of}
+use Rattle.tcq_syntax.specs.End.{future_set}
+use Rattle.tcq_syntax.specs.Laws.{granted_place}
 use Rattle.antichains.specs.Sets.{holds}
 use Rattle.antichains.specs.Chain.{IsChain, IsMinimal, values_at}
 use Rattle.answer_tables.specs.Tuples.{IsTuple}
 use Rattle.answer_tables.specs.Table.{Chains, at, same_tuple}
 use Rattle.answer_tables.specs.Combining.{LinksAreIn}
-use Rattle.answer_tables.specs.Substituting.{chains_at}
-use Rattle.progression.specs.Step.{kept_place, node_test}
+use Rattle.answer_tables.specs.Substituting.{HaveShape, chains_at}
+use Rattle.progression.specs.Step.{kept_place, node_test, is_past, AllStand, KeptStands, LeafIs, OwnIn, AllOwn}
 
 -- the table that stands where there is none: it holds nowhere
 abbrev pub no_table : Chains
@@ -53,6 +59,14 @@ leaves_of [] = []
 leaves_of (node.Leaf q ∷ nodes) = q ∷ leaves_of nodes
 leaves_of (_ ∷ nodes) = leaves_of nodes
 
+abbrev pub is_leaf : Node → Bool
+is_leaf (node.Leaf q) = true
+is_leaf _ = false
+
+-- how many leaves stand before the place, which is the number of a leaf there
+abbrev pub leaf_number : List Node → ℕ → ℕ
+leaf_number nodes place = count_by is_leaf (take place nodes)
+
 abbrev pub relation_at : List Relation → ℕ → Relation
 relation_at relations number = slice_index_or relations number (record { arity = 0; rows = [] })
 
@@ -66,6 +80,10 @@ abbrev pub HasLeaf : List Relation → ℕ → Node → Type 0
 HasLeaf relations number (node.Leaf q) = (number < length relations) × ((relation_at relations number).arity ≡ length q.head)
 HasLeaf relations number _ = Unit {0}
 
+-- there is a relation for each leaf
+abbrev pub HaveLeaves : List Node → List Relation → Type 0
+HaveLeaves nodes relations = (place : ℕ) (n : Node) → slice_get nodes place ≡ Some n → HasLeaf relations (leaf_number nodes place) n
+
 -- what the kept table that a node asks says at a tuple, where each future node has this value
 abbrev pub before_test : List (ℕ × Chains) → ℕ → List Chains → Node → List IndId → ℕ → Bool
 before_test kept place values n tuple v = holds (at (kept_table kept (kept_place place n)) tuple) (values_at (chains_at values tuple) v)
@@ -74,3 +92,28 @@ before_test kept place values n tuple v = holds (at (kept_table kept (kept_place
 abbrev pub step_test : Bool → List (ℕ × Chains) → List Relation → ℕ → ℕ → List Chains → List Chains → Node → List IndId → ℕ → Bool
 step_test first kept relations leaf place tables values n tuple v =
     node_test first (length values) (λ c. at (table_at tables c) tuple) (before_test kept place values n tuple) (leaf_test relations leaf n tuple) n v
+
+-- the values after one more node with this table: a future node adds the table of what is granted with it
+abbrev pub values_after : List Chains → List Chains → Node → Chains → List Chains
+values_after tables values n table =
+    (if is_future n then values ++ table_at (tables ++ table ∷ []) (granted_place (length tables) n) ∷ [] else values)
+
+-- the answer at each leaf is whether the row answers it at the position
+abbrev pub LeavesAre : List Inclusion → History → List IndId → ℕ → List Node → List Relation → Type 0
+LeavesAre inclusions history row i nodes leaves = (place : ℕ) (n : Node) → slice_get nodes place ≡ Some n → LeafIs inclusions history row i (leaf_test leaves (leaf_number nodes place) n row) n
+
+-- at each place that a past node asks, the kept sets have only future nodes of the node's own part of the formula
+abbrev pub KeptOwn : List Node → (ℕ → List ℕ) → Type 0
+KeptOwn nodes old = (place : ℕ) (n : Node) → slice_get nodes place ≡ Some n → is_past n ≡ true → OwnIn (future_set (formula_at nodes (kept_place place n))) (old (kept_place place n))
+
+-- tables of the first so many nodes after one more snapshot
+pub record AreTables (nodes : List Node) (slots arity : ℕ) (first : Bool) (kept : List (ℕ × Chains)) (leaves : List Relation) (list : List (List ℕ)) (count : ℕ) (tables : List Chains) : Type 0 where
+  pub many : length tables ≡ count
+  pub shape : HaveShape slots arity tables
+  pub stored : All (λ table. LinksAreIn table list) tables
+  -- where the kept tables stand for a history, these stand for it with the snapshot
+  pub stand : (inclusions : List Inclusion) (history : History) (snapshot : List Fact) (row : List IndId) → IsTuple slots arity row → (first ≡ true) ↔ (length history.snapshots ≡ 0) →
+    KeptStands inclusions history row nodes (λ place. at (kept_table kept place) row) → LeavesAre inclusions (with_snapshot snapshot history) row (length history.snapshots) nodes leaves →
+    AllStand inclusions (with_snapshot snapshot history) row nodes count (λ place. at (table_at tables place) row)
+  -- and their sets are their own, as the kept ones are
+  pub own : (row : List IndId) → IsTuple slots arity row → KeptOwn nodes (λ place. at (kept_table kept place) row) → AllOwn nodes count (λ place. at (table_at tables place) row)

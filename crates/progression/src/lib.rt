@@ -4,6 +4,7 @@
 mod joined;
 mod kept;
 mod own;
+mod step;
 
 pub use kept::{Kept, start};
 pub use std::alloc::AllocError as Memory;
