@@ -1,0 +1,54 @@
+-- What is kept of an ontology's clashes.
+use Rattle.std.specs.Prelude.{◌≡◌, ℕ, ◌≤◌, List, length}
+use Rattle.std.specs.List.{All, AllZip, sum_by}
+use Rattle.dl_syntax.specs.declared.ontology.Inclusion.{Inclusion}
+use Rattle.dl_syntax.specs.declared.ontology.Clash.{Clash}
+use Rattle.dl_syntax.specs.declared.queries.Cq.{Cq}
+use Rattle.dl_syntax.specs.Declaring.{IsDeclaredClash}
+use Rattle.dl_syntax.specs.Encode.{encode}
+use Rattle.dl_syntax.specs.Ontology.{Declared, most_clashes}
+use Rattle.perfect_ref.specs.Plain.{Encoded, Reachable, PlainReachable, PlainCore, IsPlain, Lists, HoldsOf}
+use Rattle.consistency.specs.declared.rewriting.Rewriting.{Rewriting}
+use Rattle.consistency.specs.Asking.{query_of}
+
+-- the rewriting of the query, its core, and how many queries are reachable
+pub record IsRewritingOf (e : Encoded) (q : Cq) (r : Rewriting) : Type 0 where
+  pub whole : Lists (PlainReachable e q) r.whole.items
+  pub core : Lists (PlainCore e q) r.core.items
+  pub count : HoldsOf (Reachable e q) r.count
+
+abbrev pub IsRewriting : Encoded → Clash → Rewriting → Type 0
+IsRewriting e m r = IsRewritingOf e (query_of m) r
+
+-- the clash's query names no hidden role
+abbrev pub IsPlainClash : ℕ → Clash → Type 0
+IsPlainClash roles m = IsPlain roles (query_of m)
+
+-- the inclusions and clashes of an ontology of so many concepts and roles, the rewriting of each clash's query, and how many queries they reach in all
+pub record Prepared : Type 0 where
+  pub concepts : ℕ
+  pub roles : ℕ
+  pub inclusions : List Inclusion
+  pub clashes : List Clash
+  pub rewritings : List Rewriting
+  pub reached : ℕ
+
+abbrev pub encoding_of : Prepared → Encoded
+encoding_of p = record { roles = p.roles; inclusions = encode p.roles p.inclusions }
+
+-- all rewritings together reach so many queries
+abbrev pub count_in_all : List Rewriting → ℕ
+count_in_all rewritings = sum_by (λ r. r.count) rewritings
+
+pub record IsPrepared (p : Prepared) : Type 0 where
+  pub declared : All (IsDeclaredClash p.concepts p.roles) p.clashes
+  pub few : length p.clashes ≤ most_clashes
+  pub rewritten : AllZip (IsRewriting (encoding_of p)) p.clashes p.rewritings
+  pub counted : p.reached ≡ count_in_all p.rewritings
+
+-- it was prepared for the inclusions and clashes of the ontology
+pub record IsPreparedFor (p : Prepared) (ontology : Declared) : Type 0 where
+  pub concepts : p.concepts ≡ length ontology.concepts
+  pub roles : p.roles ≡ length ontology.roles
+  pub inclusions : p.inclusions ≡ ontology.inclusions
+  pub clashes : p.clashes ≡ ontology.clashes

@@ -1,0 +1,69 @@
+// The first clash that is met.
+ghost use Rattle.std.specs.Prelude.{◌↔◌, ◌≤◌, [], length, IfOk, IsTrue, List};
+ghost use Rattle.std.specs.List.{All};
+ghost use Rattle.dl_syntax.specs.declared.facts.Fact.{Fact};
+ghost use Rattle.dl_syntax.specs.Queries.{IsQuery};
+ghost use Rattle.dl_syntax.specs.Ontology.{Declared};
+ghost use Rattle.perfect_ref.specs.Laws.{IsOverOntology, IsSaturated};
+ghost use Rattle.ucq_join.specs.Answers.{IsUnionAnswer};
+ghost use Rattle.consistency.specs.Asking.{HasEmptyHead};
+ghost use Rattle.consistency.specs.Least.{IsFirstClash};
+ghost use Rattle.consistency.specs.Matching.{AsksForMatch, IsFirstMatch};
+ghost use Rattle.consistency.specs.Prepared.{IsPreparedFor};
+
+use crate::clashes::Clashes;
+use crate::rewriting::{Part, Rewriting};
+use dl_syntax::{Cq, Memory};
+use fact_index::Index;
+use std::alloc::Global;
+use ucq_join::answers;
+
+// Whether some member of a union, whose heads are empty, has a match.
+fn has_match(alloc: Global, index: &Index, union: &[Cq]) -> Result<bool, Memory>
+    requires queries { All IsQuery union.now }
+    requires heads { All HasEmptyHead union.now }
+    ensures { IfOk result (λ found. IsTrue found ↔ IsUnionAnswer index.now union.now []) }
+{
+    let rows = answers(alloc, index, 0, union)?;
+    Ok(!rows.is_empty())
+}
+
+// The number, counted from 1, of the first rewriting whose part has a match.
+fn first_match(
+    alloc: Global,
+    rewritings: &[Rewriting],
+    part: Part,
+    index: &Index,
+) -> Result<Option<u32>, Memory>
+    requires few { length rewritings.now ≤ 4096 }
+    requires ask { All (AsksForMatch part) rewritings.now }
+    ensures { IfOk result (IsFirstMatch index.now part rewritings.now) }
+{
+    let mut number = 0;
+    for rewriting in rewritings {
+        number += 1;
+        if has_match(alloc, index, rewriting.part(part))? {
+            return Ok(Some(number));
+        }
+    }
+    Ok(None)
+}
+
+/// The least number, counted from 1, of a clash that some run of the index's facts meets, and none exactly where they are consistent.
+/// That is so under each ontology for which the clashes were prepared and which declares the facts' predicates, where the facts hold no null.
+pub fn first_clash(alloc: Global, clashes: &Clashes, index: &Index) -> Result<Option<u32>, Memory>
+    ensures { IfOk result (λ first. (o : Declared) → IsPreparedFor clashes.now o → IsOverOntology o index.now → IsFirstClash o index.now first) }
+{
+    first_match(alloc, clashes.rewritings(), Part::Whole, index)
+}
+
+/// The same over the index of a saturated snapshot, which has exactly the facts over individuals that some run of the snapshot holds: the least number of a clash that some run of the snapshot meets, and none exactly where the snapshot is consistent. A clash that is met at nulls alone counts too.
+pub fn first_clash_closed(
+    alloc: Global,
+    clashes: &Clashes,
+    index: &Index,
+) -> Result<Option<u32>, Memory>
+    ensures { IfOk result (λ first. (o : Declared) (snapshot : List Fact) → IsPreparedFor clashes.now o → IsOverOntology o snapshot → IsSaturated o snapshot index.now → IsFirstClash o snapshot first) }
+{
+    first_match(alloc, clashes.rewritings(), Part::Core, index)
+}
