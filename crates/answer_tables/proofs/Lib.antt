@@ -14,3 +14,5 @@ mod Marking
 mod Parts
 mod TupleRows
 mod Two
+mod Listing
+mod LinkLists

@@ -1,5 +1,5 @@
 -- Numbers of tuples.
-use Rattle.std.proofs.Common.{◌≡◌, ℕ, zero, suc, ◌+◌, ◌-◌, ◌*◌, ◌/◌, ◌%◌, ◌^◌, ◌<◌, ◌≤◌, List, [], ◌∷◌, ◌++◌, length, get_or, refl, sym, ◌∙◌, ap, subst, arith, inl, inr, add-one, length-append}
+use Rattle.std.proofs.Common.{◌≡◌, ℕ, zero, suc, ◌+◌, ◌*◌, ◌/◌, ◌%◌, ◌^◌, ◌<◌, ◌≤◌, List, [], ◌∷◌, ◌++◌, length, refl, ◌∙◌, ap, subst, arith, inl, inr, add-one, length-append}
 use Rattle.std.specs.Prelude.{◌⊎◌, All, map}
 use Rattle.std.specs.List.{Contains}
 use Rattle.std.proofs.lemmas.Bool.{cases_lt}
@@ -117,3 +117,9 @@ only_tuples slots (suc arity) tuple there =
     let found = with_first_only slots (tuples slots arity) tuple there in
     let rest = only_tuples slots arity found.2.0 found.2.1 in
     subst (IsTuple slots (suc arity)) found.2.2 (ap suc rest.0, digits_cons slots found.0 found.2.0 found.1 rest.1)
+
+-- where there is a number with some places, there is a slot
+pub some_slots : (slots places n : ℕ) → n < slots ^ places → 0 < places → 0 < slots
+some_slots zero zero n below some = absurd (omega (arith, some))
+some_slots zero (suc k) n below some = absurd (let none : zero ^ suc k ≡ 0 = pow-suc zero k ∙ omega arith in omega (arith, below, none))
+some_slots (suc m) places n below some = omega arith

@@ -1,18 +1,16 @@
 -- The number of a tuple's part, by weighed digits.
-use Rattle.std.proofs.Common.{◌≡◌, ℕ, zero, suc, ◌+◌, ◌-◌, ◌*◌, ◌^◌, ◌<◌, ◌≤◌, List, [], ◌∷◌, ◌++◌, length, take, get_or, set, replicate, min, refl, sym, ◌∙◌, ap, subst, arith, inl, inr, length-append}
-use Rattle.std.specs.Prelude.{◌⊎◌, All, map, slice_index_or}
-use Rattle.std.specs.List.{Contains, AllPairs}
-use Rattle.std.proofs.lemmas.Bool.{cases_lt}
-use Rattle.std.proofs.lemmas.List.{map-append, get_or_default, get_or-set_other, length-set, length-replicate, get_or-replicate}
-use Rattle.std.proofs.lemmas.List.Elements.{All-push, All-weaker}
+use Rattle.std.proofs.Common.{◌≡◌, ℕ, zero, suc, ◌+◌, ◌-◌, ◌*◌, ◌^◌, ◌<◌, ◌≤◌, List, [], ◌∷◌, ◌++◌, length, take, get_or, set, replicate, min, refl, sym, ◌∙◌, ap, subst, arith, length-append}
+use Rattle.std.specs.Prelude.{All, slice_index_or}
+use Rattle.std.specs.List.{AllPairs}
+use Rattle.std.proofs.lemmas.List.{map-append, get_or-set_other, length-set, length-replicate, get_or-replicate}
 use Rattle.std.proofs.Math.Nat.{pow-suc, pow-zero}
 use Rattle.dl_syntax.specs.declared.names.IndId.{IndId}
 use Rattle.answer_tables.specs.declared.run.Run.{Run}
-use Rattle.answer_tables.specs.Runs.{link_at, end_from, RiseFrom, NamedBelow}
+use Rattle.answer_tables.specs.Runs.{link_at, NamedBelow}
 use Rattle.answer_tables.specs.Tuples.{IsTuple, number}
 use Rattle.answer_tables.specs.Spreading.{weighed, reach, Spread}
 use Rattle.answer_tables.specs.Marks.{part_on, AreMarked, MarksParts, WeighParts}
-use Rattle.answer_tables.proofs.Numbers.{Digits, tuple_below, number-push, digits_cons}
+use Rattle.answer_tables.proofs.Numbers.{tuple_below, number-push, digits_cons}
 
 abbrev zeroth : IndId
 zeroth = record { 0 = 0 }

@@ -1,10 +1,9 @@
 -- Links numbered anew.
-use Rattle.std.proofs.Common.{◌≡◌, ℕ, zero, suc, ◌+◌, ◌^◌, ◌<◌, ◌≤◌, Bool, true, false, cond, List, [], ◌∷◌, ◌++◌, length, take, get_or, refl, sym, ◌∙◌, ap, subst, arith, inl, inr, nat_eq, length-append}
-use Rattle.std.specs.Prelude.{◌≢◌, ◌⊎◌, Some, slice_get, slice_index, slice_index_or}
+use Rattle.std.proofs.Common.{◌≡◌, ℕ, ◌+◌, ◌^◌, ◌<◌, ◌≤◌, Bool, true, false, cond, List, [], ◌∷◌, ◌++◌, length, get_or, refl, sym, ◌∙◌, ap, subst, arith, inl, inr, length-append}
+use Rattle.std.specs.Prelude.{◌⊎◌, Some, slice_get, slice_index, slice_index_or}
 use Rattle.std.specs.List.{list_any}
-use Rattle.std.specs.Cmp.Lexicographic.{pointwise, same_text}
 use Rattle.std.proofs.lemmas.Bool.{cases_lt}
-use Rattle.std.proofs.lemmas.List.{take_more, get_or_append_left, get_or_default, take_all}
+use Rattle.std.proofs.lemmas.List.{get_or_append_left}
 use Rattle.std.proofs.Math.Seq.{get_or-append_seam}
 use Rattle.std.proofs.lemmas.Option.{slice_get-get_or, slice_get_within, get_or_from_slice_get}
 use Rattle.formula_store.specs.Interned.{interned, AreDistinct}
@@ -12,8 +11,8 @@ use Rattle.formula_store.proofs.Chains.{is_chain, slice_get-interned}
 use Rattle.answer_tables.specs.declared.run.Run.{Run}
 use Rattle.answer_tables.specs.Runs.{link_at, end_from, RiseFrom, NamedBelow, Extended}
 use Rattle.answer_tables.specs.Renaming.{ArePlaces, AreRenamed}
-use Rattle.answer_tables.specs.Table.{AreRuns, AreUsed, IsTable, chain_at, view_of}
-use Rattle.answer_tables.proofs.Runs.{run_at, Rest, Rest-start, Rest-here, Rest-above, Rest-next, Rest-end, link_at-named}
+use Rattle.answer_tables.specs.Table.{AreRuns, AreUsed, IsTable, view_of}
+use Rattle.answer_tables.proofs.Runs.{run_at, Rest, Rest-start, Rest-here, Rest-next, Rest-end, link_at-named}
 use Rattle.answer_tables.proofs.Views.{view_same}
 
 -- the runs so far, renamed

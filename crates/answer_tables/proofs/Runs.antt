@@ -1,8 +1,8 @@
 -- Runs, and what one more of them changes.
-use Rattle.std.proofs.Common.{◌≡◌, ℕ, zero, suc, ◌+◌, ◌-◌, ◌<◌, ◌≤◌, Bool, true, false, cond, List, [], ◌∷◌, ◌++◌, length, take, drop, get_or, refl, sym, ◌∙◌, ap, subst, arith, inl, inr, add-one}
+use Rattle.std.proofs.Common.{◌≡◌, ℕ, zero, suc, ◌+◌, ◌-◌, ◌<◌, ◌≤◌, Bool, cond, List, [], ◌∷◌, ◌++◌, length, take, drop, get_or, refl, sym, ◌∙◌, ap, subst, arith, inl, inr, add-one}
 use Rattle.std.specs.Prelude.{◌⊎◌, All, slice_set, slice_index_or}
 use Rattle.std.proofs.lemmas.Bool.{cases_lt, lt-ltb, le-ltb}
-use Rattle.std.proofs.lemmas.List.{take_more, take_all, set_split, drop_all, append-nil}
+use Rattle.std.proofs.lemmas.List.{take_more, take_all, set_split, drop_all}
 use Rattle.std.proofs.lemmas.List.Elements.{All-push, All-nil}
 use Rattle.std.proofs.Math.Seq.{drop-cons}
 use Rattle.answer_tables.specs.declared.run.Run.{Run}
@@ -203,3 +203,10 @@ number_run start (x ∷ rs) n below from = go (cases_lt n x.end) (λ past. numbe
     go : (n < x.end) ⊎ (x.end ≤ n) → (x.end ≤ n → (i : ℕ) × (i < length rs) × ((run_at rs i).link ≡ link_at rs n)) → (i : ℕ) × (i < length (x ∷ rs)) × ((run_at (x ∷ rs) i).link ≡ link_at (x ∷ rs) n)
     go (inl here) later = (zero, omega arith, sym (link_at-here x rs n here))
     go (inr past) later = let rest = later past in let within = rest.1 in (suc rest.0, omega (arith, within), rest.2 ∙ sym (link_at-past x rs n past))
+
+-- the next run ends within
+pub Rest-within : (runs : List Run) (i start total : ℕ) → Rest runs i start total → i < length runs → (run_at runs i).end ≤ total
+Rest-within runs i start total rest within =
+    let after = Rest-next runs i start total (run_at runs i).end rest within refl in
+    let above = end_from-above (run_at runs i).end (drop (i + 1) runs) after.rise in
+    omega (arith, above, after.ends)

@@ -1,6 +1,6 @@
 -- Numbers given to the ranks of another table.
-use Rattle.std.proofs.Common.{◌≡◌, ℕ, zero, suc, ◌+◌, ◌-◌, ◌*◌, ◌^◌, ◌<◌, ◌≤◌, List, [], ◌∷◌, length, take, drop, get_or, min, length-drop, refl, sym, ◌∙◌, ap, subst, arith, inl, inr}
-use Rattle.std.specs.Prelude.{◌⊎◌, All, slice_index, slice_range}
+use Rattle.std.proofs.Common.{◌≡◌, ℕ, zero, suc, ◌+◌, ◌-◌, ◌*◌, ◌^◌, ◌<◌, ◌≤◌, List, [], ◌∷◌, length, take, drop, min, length-drop, refl, sym, ◌∙◌, ap, subst, arith, inl, inr}
+use Rattle.std.specs.Prelude.{◌⊎◌, slice_index}
 use Rattle.std.proofs.lemmas.Bool.{cases_lt}
 use Rattle.std.proofs.Math.Nat.{pow-suc, pow-zero, pow-le-pow_right, mul-le-mul_left}
 use Rattle.std.proofs.lemmas.List.{take_all}
@@ -77,6 +77,36 @@ Spreading-step runs w ws slots limit old start before after after' digit so one 
         let same : digit ≡ d = omega (arith, less, late) in
         subst (λ (e : ℕ). link_at after' (start + (e * slots ^ length ws + number slots t)) ≡ link_at runs (old + (w * min e limit + weighed limit ws t))) same
         (ap (link_at after') (omega arith) ∙ one.each t is ∙ ap (link_at runs) (omega arith))
+
+-- a stretch of digits with one number
+pub Spreading-even : (runs : List Run) (w : ℕ) (ws : List ℕ) (slots limit old start : ℕ) (before after after' : List Run) (digit until : ℕ) (run : Run) → Spreading runs w ws slots limit old start before after digit → digit < until → run.link ≡ link_at runs (old + w * min digit limit) → ((n : ℕ) → old + w * min digit limit ≤ n → n < run.end → link_at runs n ≡ link_at runs (old + w * min digit limit)) → old + w * min digit limit < end_from 0 runs → ((d : ℕ) → digit ≤ d → d < until → old + w * min digit limit + reach limit ws + w * (min d limit - min digit limit) < run.end) → Extended after (record { end = start + until * slots ^ length ws; link = run.link }) after' → Spreading runs w ws slots limit old start before after' until
+Spreading-even runs w ws slots limit old start before after after' digit until run so more link same inside even extended = record {
+  rise = extended.rise;
+  ends = extended.ends;
+  kept = λ n below. extended.before n (omega (arith, below, so.ends)) ∙ so.kept n below;
+  each = λ d less t is. each d less t is (cases_lt d digit);
+  named = λ bound all small. extended.named bound (so.named bound all small) (subst (λ (k : ℕ). k < bound) (sym link) (link_at-named 0 runs bound (old + w * min digit limit) all (omega arith) inside));
+}
+  where
+    each : (d : ℕ) → d < until → (t : List IndId) → IsTuple slots (length ws) t → (d < digit) ⊎ (digit ≤ d) → link_at after' (start + (d * slots ^ length ws + number slots t)) ≡ link_at runs (old + (w * min d limit + weighed limit ws t))
+    each d less t is (inl early) =
+        let small = tuple_below slots (length ws) t is in
+        let part : slots ^ length ws * (d + 1) ≤ slots ^ length ws * digit = mul-le-mul_left (slots ^ length ws) (omega (arith, early)) in
+        extended.before (start + (d * slots ^ length ws + number slots t)) (omega (arith, small, part, so.ends)) ∙ so.each d early t is
+    each d less t is (inr late) =
+        let small = tuple_below slots (length ws) t is in
+        let part : slots ^ length ws * (d + 1) ≤ slots ^ length ws * until = mul-le-mul_left (slots ^ length ws) (omega (arith, less)) in
+        let above : slots ^ length ws * digit ≤ slots ^ length ws * d = mul-le-mul_left (slots ^ length ws) late in
+        let up : min digit limit ≤ min d limit = omega (arith, late) in
+        let heavier : w * min digit limit ≤ w * min d limit = mul-le-mul_left w up in
+        let apart : w * min d limit ≡ w * min digit limit + w * (min d limit - min digit limit) = ap (λ (k : ℕ). w * k) (let e : min d limit ≡ min digit limit + (min d limit - min digit limit) = omega (arith, up) in e) ∙ distribute w (min digit limit) (min d limit - min digit limit) in
+        let low = weighed_reach limit ws t in
+        let far = even d late less in
+        extended.since (start + (d * slots ^ length ws + number slots t)) (omega (arith, above, so.ends)) (omega (arith, small, part)) ∙ link
+        ∙ sym (same (old + (w * min d limit + weighed limit ws t)) (omega (arith, heavier)) (omega (arith, apart, low, far)))
+      where
+        distribute : (p a b : ℕ) → p * (a + b) ≡ p * a + p * b
+        distribute p a b = omega arith
 
 pub Spread-whole : (runs : List Run) (w : ℕ) (ws : List ℕ) (slots limit old start : ℕ) (before after : List Run) → Spreading runs w ws slots limit old start before after slots → Spread runs (w ∷ ws) slots limit old start before after
 Spread-whole runs w ws slots limit old start before after so = record {

@@ -1,9 +1,8 @@
 -- Runs that tell the chains of many tables, and the chains substituted at their ranks.
-use Rattle.std.proofs.Common.{◌≡◌, ℕ, zero, suc, ◌+◌, ◌^◌, ◌<◌, ◌≤◌, Bool, List, [], ◌∷◌, ◌++◌, length, take, get_or, refl, sym, ◌∙◌, ap, subst, arith, inl, inr, length-append}
-use Rattle.std.specs.Prelude.{◌⊎◌, All, map, slice_index_or}
-use Rattle.std.specs.List.{Contains}
+use Rattle.std.proofs.Common.{◌≡◌, ℕ, zero, suc, ◌+◌, ◌^◌, ◌<◌, ◌≤◌, List, [], ◌∷◌, ◌++◌, length, get_or, refl, sym, ◌∙◌, ap, subst, arith, inl, inr, length-append}
+use Rattle.std.specs.Prelude.{◌⊎◌, All, slice_index_or}
 use Rattle.std.proofs.lemmas.Bool.{cases_lt}
-use Rattle.std.proofs.lemmas.List.{get_or_append_left, get_or_default}
+use Rattle.std.proofs.lemmas.List.{get_or_append_left}
 use Rattle.std.proofs.lemmas.List.Elements.{All-nil, All-weaker, All-push}
 use Rattle.std.proofs.Math.Seq.{get_or-append_seam}
 use Rattle.dl_syntax.specs.declared.names.IndId.{IndId}
@@ -14,7 +13,7 @@ use Rattle.answer_tables.specs.declared.align.Joint.{Joint}
 use Rattle.answer_tables.specs.Runs.{link_at, end_from, NamedBelow}
 use Rattle.answer_tables.specs.Joint.{joint_at, IsAligned}
 use Rattle.answer_tables.specs.Tuples.{IsTuple, number}
-use Rattle.answer_tables.specs.Table.{Chains, at, AreRuns, AreUsed, chain_at, view_of}
+use Rattle.answer_tables.specs.Table.{Chains, at, AreRuns, AreUsed, view_of}
 use Rattle.answer_tables.specs.Substituting.{HaveShape, chains_at, Substitutes, Tells, TellAll, AreSubstituted}
 use Rattle.answer_tables.proofs.Runs.{link_at-named}
 use Rattle.answer_tables.proofs.Numbers.{tuple_below, tuple_at}

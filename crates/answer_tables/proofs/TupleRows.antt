@@ -1,5 +1,5 @@
 -- The row at a place, and those before it.
-use Rattle.std.proofs.Common.{◌≡◌, ℕ, zero, suc, ◌+◌, ◌<◌, List, [], ◌∷◌, ◌++◌, length, take, refl, sym, ◌∙◌, ap, subst, arith, inl, inr, add-one}
+use Rattle.std.proofs.Common.{◌≡◌, ℕ, zero, suc, ◌+◌, List, [], ◌∷◌, ◌++◌, take, ◌∙◌, ap, subst, arith, inl, inr, add-one}
 use Rattle.std.specs.Prelude.{◌⊎◌, All, Some, slice_get}
 use Rattle.std.specs.List.{Contains}
 use Rattle.dl_syntax.specs.declared.names.IndId.{IndId}

@@ -1,18 +1,17 @@
 -- Tables of two links.
-use Rattle.std.proofs.Common.{◌≡◌, ℕ, zero, suc, ◌+◌, ◌^◌, ◌<◌, ◌≤◌, List, [], ◌∷◌, length, refl, sym, ◌∙◌, ap, subst, arith, inl, inr}
-use Rattle.std.specs.Prelude.{◌⊎◌, All, slice_index_or, map, Result, Ok, Err, IfOk, OnOk}
+use Rattle.std.proofs.Common.{◌≡◌, ℕ, zero, suc, ◌^◌, ◌<◌, List, [], ◌∷◌, length, refl, sym, ◌∙◌, ap, subst, arith, inl, inr}
+use Rattle.std.specs.Prelude.{◌⊎◌, All, slice_index_or, Result, Ok, Err, IfOk, OnOk}
 use Rattle.std.specs.List.{Contains}
 use Rattle.std.proofs.lemmas.Bool.{cases_lt}
-use Rattle.std.proofs.lemmas.List.Elements.{All-nil}
 use Rattle.dl_syntax.specs.declared.names.IndId.{IndId}
 use Rattle.formula_store.specs.Interned.{interned}
 use Rattle.formula_store.proofs.Lists.{Contains-interned}
 use Rattle.answer_tables.specs.declared.run.Run.{Run}
-use Rattle.answer_tables.specs.Runs.{link_at, end_from, RiseFrom, NamedBelow}
+use Rattle.answer_tables.specs.Runs.{link_at, end_from, NamedBelow}
 use Rattle.answer_tables.specs.Tuples.{IsTuple, number}
-use Rattle.answer_tables.specs.Table.{Chains, at, AreRuns, AreUsed, view_of}
+use Rattle.answer_tables.specs.Table.{Chains, at, AreUsed}
 use Rattle.answer_tables.specs.Combining.{LinksAreIn}
-use Rattle.answer_tables.specs.Marks.{part_on, MarksParts}
+use Rattle.answer_tables.specs.Marks.{part_on}
 use Rattle.answer_tables.proofs.Runs.{link_at-named}
 use Rattle.answer_tables.proofs.Numbers.{tuple_below}
 

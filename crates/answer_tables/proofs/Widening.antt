@@ -1,12 +1,12 @@
 -- A table over one slot more.
-use Rattle.std.proofs.Common.{◌≡◌, ℕ, zero, suc, ◌+◌, ◌-◌, ◌*◌, ◌^◌, ◌<◌, ◌≤◌, List, [], ◌∷◌, ◌++◌, length, get_or, min, refl, sym, ◌∙◌, ap, subst, arith, zero-add}
-use Rattle.std.specs.Prelude.{All, map, slice_index_or}
+use Rattle.std.proofs.Common.{◌≡◌, ℕ, zero, suc, ◌+◌, ◌-◌, ◌*◌, ◌^◌, ◌<◌, ◌≤◌, List, [], ◌∷◌, length, min, refl, sym, ◌∙◌, ap, subst, arith, zero-add}
+use Rattle.std.specs.Prelude.{All, slice_index_or}
 use Rattle.std.proofs.Math.Nat.{pow-suc, pow-zero}
 use Rattle.dl_syntax.specs.declared.names.IndId.{IndId}
 use Rattle.answer_tables.specs.declared.run.Run.{Run}
-use Rattle.answer_tables.specs.Runs.{link_at, end_from, NamedBelow}
+use Rattle.answer_tables.specs.Runs.{link_at, NamedBelow}
 use Rattle.answer_tables.specs.Tuples.{IsTuple, number}
-use Rattle.answer_tables.specs.Table.{Chains, at, AreRuns, AreUsed, chain_at, view_of}
+use Rattle.answer_tables.specs.Table.{Chains, at, AreRuns, AreUsed, view_of}
 use Rattle.answer_tables.specs.Spreading.{weighed, reach, place_weights, narrowed, Spread}
 use Rattle.answer_tables.proofs.Numbers.{tuple_at, tuple_below, digits_cons}
 use Rattle.answer_tables.proofs.Views.{at_view}

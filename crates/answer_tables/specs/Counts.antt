@@ -1,5 +1,5 @@
 -- Chains of so many tuples in a row.
-use Rattle.std.specs.Prelude.{◌≡◌, ℕ, ◌+◌, ◌-◌, ◌<◌, ◌≤◌, ◌^◌, nat_lt, if◌then◌else◌, List, [], ◌∷◌, All}
+use Rattle.std.specs.Prelude.{ℕ, ◌+◌, ◌-◌, nat_lt, if◌then◌else◌, List, [], ◌∷◌}
 
 -- each count gives its chain to the next ranks
 abbrev pub counted_chain : List (ℕ × List ℕ) → ℕ → List ℕ

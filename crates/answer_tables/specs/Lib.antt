@@ -9,3 +9,4 @@ pub mod Counts
 pub mod Substituting
 pub mod Spreading
 pub mod Marks
+pub mod Holding

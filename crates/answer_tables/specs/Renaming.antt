@@ -1,6 +1,5 @@
 -- Links numbered anew, each chain once.
 use Rattle.std.specs.Prelude.{◌≡◌, ℕ, ◌<◌, List, length, slice_index, slice_index_or, slice_get, Some}
-use Rattle.formula_store.specs.Interned.{AreDistinct}
 use Rattle.answer_tables.specs.declared.run.Run.{Run}
 use Rattle.answer_tables.specs.Runs.{link_at, end_from, RiseFrom, NamedBelow}
 

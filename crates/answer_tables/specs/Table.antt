@@ -1,5 +1,5 @@
 -- Tables with a chain for each tuple.
-use Rattle.std.specs.Prelude.{◌≡◌, ℕ, ◌+◌, ◌*◌, ◌^◌, ◌<◌, ◌≤◌, ◌&&◌, nat_eq, if◌then◌else◌, Bool, true, false, Option, Some, None, List, [], ◌∷◌, length, slice_index_or}
+use Rattle.std.specs.Prelude.{◌≡◌, ℕ, ◌^◌, ◌<◌, ◌≤◌, ◌&&◌, nat_eq, if◌then◌else◌, Bool, true, false, Option, Some, None, List, [], ◌∷◌, ◌++◌, length, map, slice_index_or}
 use Rattle.std.specs.Cmp.Lexicographic.{pointwise}
 use Rattle.dl_syntax.specs.declared.names.IndId.{IndId}
 use Rattle.formula_store.specs.Interned.{AreDistinct}
@@ -44,6 +44,14 @@ differing chain usual (t ∷ ts) = (if pointwise nat_eq (chain t) usual then dif
 -- the tuples whose chain is another
 unfoldable pub exceptions_of : (List IndId → List ℕ) → List (List IndId) → List (List IndId × List ℕ)
 exceptions_of chain ts = differing chain (default_chain (default_of chain ts)) ts
+
+abbrev pub default_links : Option (List ℕ) → List (List ℕ)
+default_links None = []
+default_links (Some chain) = chain ∷ []
+
+-- the default, if there is one, then the exceptions' chains in the order of their tuples
+abbrev pub links_of : Chains → List (List ℕ)
+links_of table = default_links table.default ++ map (λ e. e.1) table.exceptions
 
 -- the chain at a rank
 abbrev pub chain_at : List (List ℕ) → List Run → ℕ → List ℕ

@@ -5,8 +5,9 @@ ghost use Rattle.answer_tables.specs.Runs.{RiseFrom, end_from};
 ghost use Rattle.answer_tables.specs.Joint.{IsAligned, joint_at};
 ghost use Rattle.answer_tables.specs.Numbering.{Numbered};
 
+use crate::Memory;
 use crate::run::{Run, extend};
-use std::alloc::{AllocError, Global};
+use std::alloc::Global;
 
 /// How many pairs of numbers are remembered at once.
 const REMEMBERED: usize = 1024;
@@ -44,7 +45,7 @@ impl Numbering {
     }
 
     /// The number of a joint with the same numbers, which is the joint's own where none is remembered.
-    fn number(&mut self, joint: Joint) -> Result<usize, AllocError>
+    fn number(&mut self, joint: Joint) -> Result<usize, Memory>
         ensures { IfOk result (Numbered self.old.joints.items joint self.new.joints.items) }
     {
         let slot = joint.first.wrapping_mul(32).wrapping_add(joint.second) % REMEMBERED;
@@ -78,7 +79,7 @@ fn next_place(place: usize, run: Run, rank: u64) -> usize
 }
 
 /// Both lists at once: their numbers at a rank are those of the joint that the runs have there.
-pub fn align(alloc: Global, a: &[Run], b: &[Run]) -> Result<Aligned, AllocError>
+pub fn align(alloc: Global, a: &[Run], b: &[Run]) -> Result<Aligned, Memory>
     requires rise_a { RiseFrom 0 a.now }
     requires rise_b { RiseFrom 0 b.now }
     requires ends { end_from 0 a.now ≡ end_from 0 b.now }

@@ -10,10 +10,11 @@ ghost use Rattle.answer_tables.specs.Tuples.{IsTuple};
 ghost use Rattle.answer_tables.specs.Table.{at};
 ghost use Rattle.answer_tables.specs.Combining.{test_of, Combines, AreCombined, JointsWithin, LinksAreIn};
 
+use crate::Memory;
 use crate::align::{Joint, align};
 use crate::table::Table;
 use formula_store::{Link, Store};
-use std::alloc::{AllocError, Global};
+use std::alloc::Global;
 
 /// How two chains become one.
 #[derive(Clone, Copy)]
@@ -28,7 +29,7 @@ fn combined_link(
     a: &Link,
     b: &Link,
     store: &mut Store,
-) -> Result<Link, AllocError>
+) -> Result<Link, Memory>
     ensures link { IfOk result (Combines (test_of operation) a.now b.now) }
     ensures stored { IfOk result (Contains store.new) }
     ensures grown { Extends store.old store.new }
@@ -47,7 +48,7 @@ fn combined_links(
     b: &[Link],
     joints: &[Joint],
     store: &mut Store,
-) -> Result<Vec<Link>, AllocError>
+) -> Result<Vec<Link>, Memory>
     requires { JointsWithin (length a.now) (length b.now) joints.now }
     ensures links { IfOk result (λ links. AreCombined (test_of operation) a.now b.now joints.now links.items) }
     ensures stored { IfOk result (λ links. All (Contains store.new) links.items) }
@@ -68,7 +69,7 @@ fn combine(
     a: &Table,
     b: &Table,
     store: &mut Store,
-) -> Result<Table, AllocError>
+) -> Result<Table, Memory>
     requires slots { a.now.slots ≡ b.now.slots }
     requires arity { a.now.arity ≡ b.now.arity }
     ensures slots { IfOk result (λ t. t.slots ≡ a.now.slots) }
@@ -96,12 +97,7 @@ fn combine(
 }
 
 /// The chains that hold where either table's do.
-pub fn combine_or(
-    alloc: Global,
-    a: &Table,
-    b: &Table,
-    store: &mut Store,
-) -> Result<Table, AllocError>
+pub fn combine_or(alloc: Global, a: &Table, b: &Table, store: &mut Store) -> Result<Table, Memory>
     requires slots { a.now.slots ≡ b.now.slots }
     requires arity { a.now.arity ≡ b.now.arity }
     ensures slots { IfOk result (λ t. t.slots ≡ a.now.slots) }
@@ -114,12 +110,7 @@ pub fn combine_or(
 }
 
 /// The chains that hold where both tables' do.
-pub fn combine_and(
-    alloc: Global,
-    a: &Table,
-    b: &Table,
-    store: &mut Store,
-) -> Result<Table, AllocError>
+pub fn combine_and(alloc: Global, a: &Table, b: &Table, store: &mut Store) -> Result<Table, Memory>
     requires slots { a.now.slots ≡ b.now.slots }
     requires arity { a.now.arity ≡ b.now.arity }
     ensures slots { IfOk result (λ t. t.slots ≡ a.now.slots) }

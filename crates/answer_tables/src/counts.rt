@@ -5,10 +5,11 @@ ghost use Rattle.answer_tables.specs.Tuples.{IsTuple, number};
 ghost use Rattle.answer_tables.specs.Table.{at};
 ghost use Rattle.answer_tables.specs.Counts.{counted_chain, count_of};
 
+use crate::Memory;
 use crate::run::Run;
 use crate::table::Table;
 use formula_store::Link;
-use std::alloc::{AllocError, Global};
+use std::alloc::Global;
 
 /// The table in which each run gives its chain to the next tuples, so many of them, in rising order.
 pub fn from_runs(
@@ -16,7 +17,7 @@ pub fn from_runs(
     slots: u32,
     arity: u8,
     runs: &[(u64, Link)],
-) -> Result<Table, AllocError>
+) -> Result<Table, Memory>
     requires some { All (λ r. 1 ≤ r.0) runs.now }
     requires whole { count_of runs.now ≡ slots ^ arity }
     requires few { slots ^ arity ≤ 2 ^ 60 }

@@ -4,19 +4,22 @@
 mod align;
 mod combine;
 mod counts;
-
+mod holding;
+mod links;
 mod marks;
 mod renaming;
 mod run;
 mod spread;
 mod substitute;
 mod table;
+#[cfg(test)]
+mod tests;
 mod true_at;
 mod widen;
 
 pub use combine::{combine_and, combine_or};
 pub use counts::from_runs;
-
+pub use std::alloc::AllocError as Memory;
 pub use substitute::substitute_all;
 pub use table::{Table, fill};
 pub use true_at::from_tuples;

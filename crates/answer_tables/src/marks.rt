@@ -6,14 +6,15 @@ ghost use Rattle.dl_syntax.specs.Rows.{IsRising};
 ghost use Rattle.answer_tables.specs.Runs.{RiseFrom, end_from};
 ghost use Rattle.answer_tables.specs.Marks.{Cleared, AreMarked, Marks, MarksParts, WeighParts};
 
+use crate::Memory;
 use crate::run::{Run, extend};
 use crate::spread::spread;
 use crate::table::{number_of, tuple_count};
 use dl_syntax::{IndId, Tuples};
-use std::alloc::{AllocError, Global};
+use std::alloc::Global;
 
 /// Gives 0 to the ranks from the runs' end up to a rank.
-fn clear_to(runs: &mut Vec<Run>, end: u64, rank: u64) -> Result<(), AllocError>
+fn clear_to(runs: &mut Vec<Run>, end: u64, rank: u64) -> Result<(), Memory>
     requires rise { RiseFrom 0 runs.old.items }
     requires end { end_from 0 runs.old.items ≡ end }
     requires ahead { end ≤ rank }
@@ -39,7 +40,7 @@ fn mark_row(
     place: usize,
     runs: &mut Vec<Run>,
     end: u64,
-) -> Result<u64, AllocError>
+) -> Result<u64, Memory>
     requires place { place < length rows.now.rows }
     requires rising { IsRising rows.now.rows }
     requires wide { All (λ row. length row ≡ rows.now.arity) rows.now.rows }
@@ -59,7 +60,7 @@ fn mark_row(
 }
 
 /// Runs over the ranks of all tuples as long as the rows, with 1 at those of the rows and 0 at the others.
-fn mark_rows(alloc: Global, slots: u32, rows: &Tuples) -> Result<Vec<Run>, AllocError>
+fn mark_rows(alloc: Global, slots: u32, rows: &Tuples) -> Result<Vec<Run>, Memory>
     requires rising { IsRising rows.now.rows }
     requires wide { All (λ row. length row ≡ rows.now.arity) rows.now.rows }
     requires few { slots ^ rows.now.arity ≤ 2 ^ 60 }
@@ -81,7 +82,7 @@ fn weights_of_part(
     arity: u8,
     places: &[u8],
     count: u8,
-) -> Result<Vec<u64>, AllocError>
+) -> Result<Vec<u64>, Memory>
     requires some { 0 < slots }
     requires few { slots ^ arity ≤ 2 ^ 60 }
     requires count { length places.now ≡ count }
@@ -105,7 +106,7 @@ pub fn mark_parts(
     arity: u8,
     places: &[u8],
     rows: &Tuples,
-) -> Result<Vec<Run>, AllocError>
+) -> Result<Vec<Run>, Memory>
     requires some { 0 < slots }
     requires few { slots ^ arity ≤ 2 ^ 60 }
     requires rising_places { AllPairs (λ p q. p < q) places.now }

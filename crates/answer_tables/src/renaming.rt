@@ -5,10 +5,11 @@ ghost use Rattle.formula_store.specs.Interned.{AreDistinct};
 ghost use Rattle.answer_tables.specs.Runs.{RiseFrom, NamedBelow};
 ghost use Rattle.answer_tables.specs.Renaming.{ArePlaces, AreRenamed};
 
+use crate::Memory;
 use crate::run::{Run, extend};
 use formula_store::Link;
 use indexmap::IndexSet;
-use std::alloc::{AllocError, Global};
+use std::alloc::Global;
 
 /// Links of distinct chains, and the place among them of each link that was given.
 #[derive(Drop)]
@@ -18,7 +19,7 @@ pub struct Once {
 }
 
 /// Links of the same chains.
-pub fn copies(alloc: Global, links: &[Link]) -> Result<Vec<Link>, AllocError>
+pub fn copies(alloc: Global, links: &[Link]) -> Result<Vec<Link>, Memory>
     ensures { IfOk result (λ copies. copies.items ≡ links.now) }
 {
     let mut copies = Vec::with_capacity(alloc, links.len())?;
@@ -29,7 +30,7 @@ pub fn copies(alloc: Global, links: &[Link]) -> Result<Vec<Link>, AllocError>
 }
 
 /// Each chain once, in order of first occurrence.
-pub fn each_once(alloc: Global, links: &[Link]) -> Result<Once, AllocError>
+pub fn each_once(alloc: Global, links: &[Link]) -> Result<Once, Memory>
     ensures distinct { IfOk result (λ o. AreDistinct o.links.items) }
     ensures places { IfOk result (λ o. ArePlaces links.now o.links.items o.places.items) }
 {
@@ -44,7 +45,7 @@ pub fn each_once(alloc: Global, links: &[Link]) -> Result<Once, AllocError>
 }
 
 /// The same runs, each link's number replaced by its place.
-pub fn renamed(alloc: Global, runs: &[Run], places: &[usize]) -> Result<Vec<Run>, AllocError>
+pub fn renamed(alloc: Global, runs: &[Run], places: &[usize]) -> Result<Vec<Run>, Memory>
     requires rise { RiseFrom 0 runs.now }
     requires named { NamedBelow (length places.now) runs.now }
     ensures { IfOk result (λ new. AreRenamed places.now runs.now new.items) }

@@ -3,7 +3,7 @@
 ghost use Rattle.std.specs.Prelude.{◌≡◌, ℕ, ◌<◌, ◌≤◌, OnOk, length};
 ghost use Rattle.answer_tables.specs.Runs.{Extended, RiseFrom, end_from, link_at};
 
-use std::alloc::AllocError;
+use crate::Memory;
 
 /// The tuples of the ranks from the end of the run before up to this end have one link, told by its number.
 #[derive(Clone, Copy)]
@@ -13,7 +13,7 @@ pub struct Run {
 }
 
 /// Gives the next ranks, up to the run's end, its link.
-pub fn extend(runs: &mut Vec<Run>, run: Run) -> Result<(), AllocError>
+pub fn extend(runs: &mut Vec<Run>, run: Run) -> Result<(), Memory>
     requires rise { RiseFrom 0 runs.old.items }
     requires more { end_from 0 runs.old.items < run.end }
     ensures { OnOk result (Extended runs.old.items run runs.new.items) }

@@ -1,12 +1,12 @@
 //! The numbers of runs given to the ranks of another table.
 
-ghost use Rattle.std.specs.Prelude.{◌≡◌, ◌+◌, ◌<◌, ◌≤◌, ◌^◌, OnOk, length};
+ghost use Rattle.std.specs.Prelude.{◌≡◌, ◌+◌, ◌-◌, ◌*◌, ◌<◌, ◌≤◌, ◌^◌, ℕ, OnOk, length, min};
 ghost use Rattle.answer_tables.specs.Runs.{RiseFrom, end_from};
 ghost use Rattle.answer_tables.specs.Spreading.{Spread, reach};
 
+use crate::Memory;
 use crate::run::{Run, extend, run_of};
 use crate::table::tuple_count;
-use std::alloc::AllocError;
 
 /// The greatest sum of digits, each at most the limit, by their weights.
 fn reach(limit: u32, weights: &[u64]) -> u64
@@ -20,6 +20,27 @@ fn reach(limit: u32, weights: &[u64]) -> u64
     }
 }
 
+/// A digit up to which each, from one on, adds by its weight less than what takes a sum up to an end.
+/// Digits above the limit add as much as the limit.
+fn even_until(weight: u64, digit: u32, slots: u32, limit: u32, sum: u64, end: u64) -> u32
+    requires { digit < slots }
+    ensures from { digit ≤ result }
+    ensures within { result ≤ slots }
+    ensures even { (d : ℕ) → digit ≤ d → d < result → sum + weight * (min d limit - min digit limit) < end }
+{
+    if sum >= end {
+        return digit;
+    }
+    if weight == 0 || digit >= limit {
+        return slots;
+    }
+    let more = (end - 1 - sum) / weight;
+    if more >= (limit - digit) as u64 {
+        return slots;
+    }
+    (digit + more as u32 + 1).min(slots)
+}
+
 /// Gives each tuple of as many digits as there are weights, in rising order, the number that the
 /// runs have at the sum of its digits, each at most the limit, by their weights, from `old` on.
 pub fn spread(
@@ -31,7 +52,7 @@ pub fn spread(
     old: u64,
     start: u64,
     new: &mut Vec<Run>,
-) -> Result<(), AllocError>
+) -> Result<(), Memory>
     requires rise { RiseFrom 0 runs.now }
     requires long { length weights.now ≡ arity }
     requires some { 0 < slots }
@@ -45,28 +66,35 @@ pub fn spread(
     let run = run_of(runs, old);
     if old + reach(limit, weights) < run.end {
         let end = start + tuple_count(slots, arity);
-        return extend(
-            new,
-            Run {
-                end,
-                link: run.link,
-            },
-        );
+        let link = run.link;
+        return extend(new, Run { end, link });
     }
     let part = tuple_count(slots, arity - 1);
-    for digit in 0..slots {
+    let far = reach(limit, &weights[1..]);
+    let mut digit = 0;
+    while digit < slots {
         let from = old + weights[0] * digit.min(limit) as u64;
         let rank = start + digit as u64 * part;
-        spread(
-            runs,
-            &weights[1..],
-            arity - 1,
-            slots,
-            limit,
-            from,
-            rank,
-            new,
-        )?;
+        let run = run_of(runs, from);
+        let until = even_until(weights[0], digit, slots, limit, from + far, run.end);
+        if digit < until {
+            let end = start + until as u64 * part;
+            let link = run.link;
+            extend(new, Run { end, link })?;
+            digit = until;
+        } else {
+            spread(
+                runs,
+                &weights[1..],
+                arity - 1,
+                slots,
+                limit,
+                from,
+                rank,
+                new,
+            )?;
+            digit += 1;
+        }
     }
     Ok(())
 }

@@ -12,13 +12,14 @@ ghost use Rattle.answer_tables.specs.Joint.{joint_at};
 ghost use Rattle.answer_tables.specs.Combining.{LinksAreIn};
 ghost use Rattle.answer_tables.specs.Substituting.{HaveShape, Substitutes, TellAll, AreSubstituted, chains_at};
 
+use crate::Memory;
 use crate::align::{Aligned, Joint, align};
 use crate::table::Table;
 use formula_store::{Link, Store};
-use std::alloc::{AllocError, Global};
+use std::alloc::Global;
 
 /// All tables at once: where the runs have one number, each table has one chain.
-fn align_all(alloc: Global, table: &Table, values: &[Table]) -> Result<Aligned, AllocError>
+fn align_all(alloc: Global, table: &Table, values: &[Table]) -> Result<Aligned, Memory>
     requires { HaveShape table.now.slots table.now.arity values.now }
     ensures { IfOk result (λ a. TellAll table.now.slots table.now.arity table.now values.now a.runs.items a.joints.items) }
 {
@@ -30,7 +31,7 @@ fn align_all(alloc: Global, table: &Table, values: &[Table]) -> Result<Aligned, 
 }
 
 /// The chain of each table at the tuple with a number.
-fn value_links(alloc: Global, values: &[Table], rank: u64) -> Result<Vec<Link>, AllocError>
+fn value_links(alloc: Global, values: &[Table], rank: u64) -> Result<Vec<Link>, Memory>
     requires { All (λ v. rank < v.slots ^ v.arity) values.now }
     ensures { IfOk result (λ links. (tuple : List IndId) → All (λ v. IsTuple v.slots v.arity tuple × (number v.slots tuple ≡ rank)) values.now → links.items ≡ chains_at values.now tuple) }
 {
@@ -49,7 +50,7 @@ fn substituted_link(
     values: &[Table],
     rank: u64,
     store: &mut Store,
-) -> Result<Link, AllocError>
+) -> Result<Link, Memory>
     requires shape { HaveShape table.now.slots table.now.arity values.now }
     requires within { rank < table.now.slots ^ table.now.arity }
     ensures link { IfOk result (λ l. (tuple : List IndId) → IsTuple table.now.slots table.now.arity tuple → number table.now.slots tuple ≡ rank → Substitutes table.now values.now tuple l) }
@@ -67,7 +68,7 @@ fn substituted_links(
     values: &[Table],
     joints: &[Joint],
     store: &mut Store,
-) -> Result<Vec<Link>, AllocError>
+) -> Result<Vec<Link>, Memory>
     requires shape { HaveShape table.now.slots table.now.arity values.now }
     requires within { All (λ j. j.rank < table.now.slots ^ table.now.arity) joints.now }
     ensures links { IfOk result (λ links. AreSubstituted table.now.slots table.now.arity table.now values.now joints.now links.items) }
@@ -89,7 +90,7 @@ pub fn substitute_all(
     table: &Table,
     values: &[Table],
     store: &mut Store,
-) -> Result<Table, AllocError>
+) -> Result<Table, Memory>
     requires { HaveShape table.now.slots table.now.arity values.now }
     ensures slots { IfOk result (λ t. t.slots ≡ table.now.slots) }
     ensures arity { IfOk result (λ t. t.arity ≡ table.now.arity) }

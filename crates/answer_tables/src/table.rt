@@ -5,11 +5,12 @@ ghost use Rattle.dl_syntax.specs.declared.names.IndId.{IndId};
 ghost use Rattle.answer_tables.specs.Tuples.{IsTuple, number};
 ghost use Rattle.answer_tables.specs.Table.{Chains, AreRuns, AreUsed, HasChain, at, view_of};
 
+use crate::Memory;
 use crate::renaming::{copies, each_once, renamed};
 use crate::run::{Run, link_of};
 use dl_syntax::IndId;
 use formula_store::Link;
-use std::alloc::{AllocError, Global};
+use std::alloc::Global;
 use std::marker::Model;
 
 /// A chain for each tuple of so many individuals below a number of slots.
@@ -32,7 +33,7 @@ impl Model for Table {
 }
 
 /// How many tuples come before this one.
-pub fn number_of(slots: u32, tuple: &[IndId]) -> u64
+pub(crate) fn number_of(slots: u32, tuple: &[IndId]) -> u64
     requires below { All (λ i. i.0 < slots) tuple.now }
     requires few { slots ^ length tuple.now ≤ 2 ^ 60 }
     ensures { result ≡ number slots tuple.now }
@@ -45,7 +46,7 @@ pub fn number_of(slots: u32, tuple: &[IndId]) -> u64
 }
 
 /// How many tuples there are.
-pub fn tuple_count(slots: u32, arity: u8) -> u64
+pub(crate) fn tuple_count(slots: u32, arity: u8) -> u64
     requires { slots ^ arity ≤ 2 ^ 60 }
     ensures { result ≡ slots ^ arity }
 {
@@ -53,7 +54,7 @@ pub fn tuple_count(slots: u32, arity: u8) -> u64
 }
 
 /// The same chain for each tuple.
-pub fn fill(alloc: Global, slots: u32, arity: u8, link: &Link) -> Result<Table, AllocError>
+pub fn fill(alloc: Global, slots: u32, arity: u8, link: &Link) -> Result<Table, Memory>
     requires { slots ^ arity ≤ 2 ^ 60 }
     ensures slots { IfOk result (λ t. t.slots ≡ slots) }
     ensures arity { IfOk result (λ t. t.arity ≡ arity) }
@@ -69,13 +70,13 @@ pub fn fill(alloc: Global, slots: u32, arity: u8, link: &Link) -> Result<Table, 
 
 impl Table {
     /// The table of runs over all tuples.
-    pub fn from_parts(
+    pub(crate) fn from_parts(
         alloc: Global,
         slots: u32,
         arity: u8,
         links: &[Link],
         runs: &[Run],
-    ) -> Result<Table, AllocError>
+    ) -> Result<Table, Memory>
         requires are { AreRuns slots arity links.now runs.now }
         requires used { AreUsed (slots ^ arity) (length links.now) runs.now }
         ensures { IfOk result (λ t. t ≡ view_of slots arity links.now runs.now) }
@@ -141,7 +142,7 @@ impl Table {
     }
 
     /// An equal table.
-    pub fn copy(&self) -> Result<Table, AllocError>
+    pub fn copy(&self) -> Result<Table, Memory>
         ensures { IfOk result (λ t. t ≡ self.now) }
     {
         let links = copies(*self.links.allocator(), self.links.as_slice())?;

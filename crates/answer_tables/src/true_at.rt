@@ -11,13 +11,14 @@ ghost use Rattle.answer_tables.specs.Table.{at};
 ghost use Rattle.answer_tables.specs.Combining.{LinksAreIn};
 ghost use Rattle.answer_tables.specs.Marks.{part_on};
 
+use crate::Memory;
 use crate::marks::mark_parts;
 use crate::run::Run;
 use crate::table::{Table, fill};
 use antichains::Chain;
 use dl_syntax::Tuples;
 use formula_store::{Link, Store};
-use std::alloc::{AllocError, Global};
+use std::alloc::Global;
 
 /// Whether some rank has the number.
 fn has_number(runs: &[Run], link: usize) -> bool
@@ -41,7 +42,7 @@ fn from_two(
     first: &Link,
     second: &Link,
     runs: &[Run],
-) -> Result<Table, AllocError>
+) -> Result<Table, Memory>
     requires few { slots ^ arity ≤ 2 ^ 60 }
     requires rise { RiseFrom 0 runs.now }
     requires ends { end_from 0 runs.now ≡ slots ^ arity }
@@ -61,7 +62,7 @@ fn from_two(
 }
 
 /// The link of true or of false.
-fn fixed_link(alloc: Global, value: bool, store: &mut Store) -> Result<Link, AllocError>
+fn fixed_link(alloc: Global, value: bool, store: &mut Store) -> Result<Link, Memory>
     ensures link { IfOk result (λ l. l ≡ (if value then 0 ∷ [] else [])) }
     ensures stored { IfOk result (Contains store.new) }
     ensures grown { Extends store.old store.new }
@@ -86,7 +87,7 @@ pub fn from_tuples(
     places: &[u8],
     rows: &Tuples,
     store: &mut Store,
-) -> Result<Table, AllocError>
+) -> Result<Table, Memory>
     requires few { slots ^ arity ≤ 2 ^ 60 }
     requires rising_places { AllPairs (λ p q. p < q) places.now }
     requires within { All (λ p. p < arity) places.now }

@@ -4,12 +4,13 @@ ghost use Rattle.answer_tables.specs.Tuples.{IsTuple};
 ghost use Rattle.answer_tables.specs.Table.{at};
 ghost use Rattle.answer_tables.specs.Spreading.{narrowed, place_weights};
 
+use crate::Memory;
 use crate::spread::spread;
 use crate::table::{Table, tuple_count};
-use std::alloc::{AllocError, Global};
+use std::alloc::Global;
 
 /// The weights of a tuple's places.
-fn weights_of_places(alloc: Global, slots: u32, arity: u8) -> Result<Vec<u64>, AllocError>
+fn weights_of_places(alloc: Global, slots: u32, arity: u8) -> Result<Vec<u64>, Memory>
     requires some { 0 < slots }
     requires few { slots ^ arity ≤ 2 ^ 60 }
     ensures { IfOk result (λ weights. weights.items ≡ place_weights slots arity) }
@@ -25,7 +26,7 @@ fn weights_of_places(alloc: Global, slots: u32, arity: u8) -> Result<Vec<u64>, A
 
 impl Table {
     /// The table over one slot more, in which the new last slot stands for what the old last slot stood for. At tuples of old slots it is as before.
-    pub fn widen(&self, alloc: Global) -> Result<Table, AllocError>
+    pub fn widen(&self, alloc: Global) -> Result<Table, Memory>
         requires some { 0 < self.now.slots }
         requires more { self.now.slots < 4294967295 }
         requires few { (self.now.slots + 1) ^ self.now.arity ≤ 2 ^ 60 }

@@ -13,8 +13,9 @@ ghost use Rattle.std.specs.Cmp.Lexicographic.{nat_list_eq_equiv, pointwise};
 ghost use Rattle.std.specs.Cmp.Rules.{hashing};
 ghost use Rattle.std.specs.Hash as fed;
 
+use crate::Memory;
 use crate::family::{Family, above_some};
-use std::alloc::{AllocError, Global};
+use std::alloc::Global;
 use std::hash::{Hash, Hasher};
 use std::marker::Model;
 
@@ -60,7 +61,7 @@ impl Hash for Chain {
 }
 
 /// The minimal sets of a family that has each set above one of its own.
-fn minimal_sets(alloc: Global, family: Family) -> Result<Vec<u8>, AllocError>
+fn minimal_sets(alloc: Global, family: Family) -> Result<Vec<u8>, Memory>
     requires { IsMonotone (has family) }
     ensures { IfOk result (λ sets. IsMinimal (has family) sets.items) }
 {
@@ -74,7 +75,7 @@ fn minimal_sets(alloc: Global, family: Family) -> Result<Vec<u8>, AllocError>
 }
 
 /// The chain of a family that has each set above one of its own.
-fn minimal(alloc: Global, family: Family) -> Result<Chain, AllocError>
+fn minimal(alloc: Global, family: Family) -> Result<Chain, Memory>
     requires { IsMonotone (has family) }
     ensures { IfOk result (IsMinimal (has family)) }
 {
@@ -83,7 +84,7 @@ fn minimal(alloc: Global, family: Family) -> Result<Chain, AllocError>
 }
 
 /// The chain of one set.
-fn single(alloc: Global, set: u8) -> Result<Chain, AllocError>
+fn single(alloc: Global, set: u8) -> Result<Chain, Memory>
     ensures minimal { IfOk result (IsMinimal (is_inside set)) }
     ensures sets { IfOk result (λ c. c ≡ set ∷ []) }
 {
@@ -119,7 +120,7 @@ impl Chain {
     }
 
     /// The chain of one value: true is the empty set alone, false is no set.
-    pub fn fixed(alloc: Global, value: bool) -> Result<Chain, AllocError>
+    pub fn fixed(alloc: Global, value: bool) -> Result<Chain, Memory>
         ensures minimal { IfOk result (IsMinimal (λ _. value)) }
         ensures sets { IfOk result (λ c. c ≡ (if value then 0 ∷ [] else [])) }
     {
@@ -131,7 +132,7 @@ impl Chain {
     }
 
     /// The chain of the set of one node.
-    pub fn one(alloc: Global, number: u8) -> Result<Chain, AllocError>
+    pub fn one(alloc: Global, number: u8) -> Result<Chain, Memory>
         requires { number < 8 }
         ensures minimal { IfOk result (IsMinimal (is_inside (2 ^ number))) }
         ensures sets { IfOk result (λ c. c ≡ 2 ^ number ∷ []) }
@@ -140,7 +141,7 @@ impl Chain {
     }
 
     /// An equal chain.
-    pub fn copy(&self) -> Result<Chain, AllocError>
+    pub fn copy(&self) -> Result<Chain, Memory>
         ensures same { IfOk result (λ c. c ≡ self.now) }
         ensures chain { IfOk result IsChain }
     {
@@ -157,28 +158,28 @@ pub fn holds(chain: &Chain, set: u8) -> bool
 }
 
 /// The minimal ones among the sets.
-pub fn from_sets(alloc: Global, sets: &[u8]) -> Result<Chain, AllocError>
+pub fn from_sets(alloc: Global, sets: &[u8]) -> Result<Chain, Memory>
     ensures { IfOk result (IsMinimal (holds sets.now)) }
 {
     minimal(alloc, above_some(sets))
 }
 
 /// The chain that holds where either does.
-pub fn or(alloc: Global, a: &Chain, b: &Chain) -> Result<Chain, AllocError>
+pub fn or(alloc: Global, a: &Chain, b: &Chain) -> Result<Chain, Memory>
     ensures { IfOk result (IsMinimal (λ v. holds a.now v || holds b.now v)) }
 {
     minimal(alloc, a.family().or(b.family()))
 }
 
 /// The chain that holds where both do.
-pub fn and(alloc: Global, a: &Chain, b: &Chain) -> Result<Chain, AllocError>
+pub fn and(alloc: Global, a: &Chain, b: &Chain) -> Result<Chain, Memory>
     ensures { IfOk result (IsMinimal (λ v. holds a.now v && holds b.now v)) }
 {
     minimal(alloc, a.family().and(b.family()))
 }
 
 /// The family of each chain.
-fn families_of(alloc: Global, values: &[Chain]) -> Result<Vec<Family>, AllocError>
+fn families_of(alloc: Global, values: &[Chain]) -> Result<Vec<Family>, Memory>
     ensures { IfOk result (λ families. AllZip FamilyOf values.now families.items) }
 {
     let mut families = Vec::new(alloc);
@@ -215,7 +216,7 @@ fn all_named(set: u8, values: &[Family]) -> Family
 /// The chain with each node replaced by its value: it holds at a set where the given one holds at
 /// the nodes whose values hold there. `values[b]` is the value of the node numbered `b`; a node
 /// without one is false.
-pub fn substitute(alloc: Global, chain: &Chain, values: &[Chain]) -> Result<Chain, AllocError>
+pub fn substitute(alloc: Global, chain: &Chain, values: &[Chain]) -> Result<Chain, Memory>
     ensures { IfOk result (IsMinimal (λ v. holds chain.now (values_at values.now v))) }
 {
     let families = families_of(alloc, values)?;

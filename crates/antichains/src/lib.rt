@@ -8,3 +8,4 @@ pub mod laws;
 mod tests;
 
 pub use chain::{Chain, and, from_sets, holds, or, substitute};
+pub use std::alloc::AllocError as Memory;

@@ -1,8 +1,8 @@
+use crate::Memory;
 use crate::chain::{Chain, and, from_sets, holds, or, substitute};
-use std::alloc::AllocError;
 
 #[test]
-fn combines(rt: HostRuntime) -> Result<(), AllocError> {
+fn combines(rt: HostRuntime) -> Result<(), Memory> {
     let alloc = rt.alloc();
     let cases: [(&[u8], &[u8], &[u8], &[u8]); 6] = [
         (&[1], &[2], &[1, 2], &[3]),
@@ -22,7 +22,7 @@ fn combines(rt: HostRuntime) -> Result<(), AllocError> {
 }
 
 #[test]
-fn substitutes(rt: HostRuntime) -> Result<(), AllocError> {
+fn substitutes(rt: HostRuntime) -> Result<(), Memory> {
     let alloc = rt.alloc();
     let values = vec![in alloc; Chain::fixed(alloc, true)?]?;
     let first = Chain::one(alloc, 0)?;
@@ -40,7 +40,7 @@ fn substitutes(rt: HostRuntime) -> Result<(), AllocError> {
 }
 
 #[test]
-fn makes(rt: HostRuntime) -> Result<(), AllocError> {
+fn makes(rt: HostRuntime) -> Result<(), Memory> {
     let alloc = rt.alloc();
     assert_eq!(rt; from_sets(alloc, &[3, 1, 2])?.sets(), [1, 2].as_slice());
     assert_eq!(rt; Chain::one(alloc, 2)?.sets(), [4].as_slice());
@@ -52,7 +52,7 @@ fn makes(rt: HostRuntime) -> Result<(), AllocError> {
 }
 
 #[test]
-fn holds_above_a_set(rt: HostRuntime) -> Result<(), AllocError> {
+fn holds_above_a_set(rt: HostRuntime) -> Result<(), Memory> {
     let chain = from_sets(rt.alloc(), &[3])?;
     assert!(rt; !holds(&chain, 1));
     assert!(rt; holds(&chain, 3));

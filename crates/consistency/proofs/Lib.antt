@@ -3,3 +3,5 @@ pub mod ClashQueries
 pub mod Counting
 pub mod Meeting
 pub mod Matches
+pub mod MarkBits
+pub mod PairMerge

@@ -3,3 +3,6 @@ pub mod Least
 pub mod Reached
 pub mod Prepared
 pub mod Matching
+pub mod Marking
+pub mod Marked
+pub mod Pairs

@@ -1,11 +1,13 @@
 ghost use Rattle.std.specs.Prelude.{◌≡◌, ◌≤◌, IfOk};
 ghost use Rattle.perfect_ref.specs.Plain.{encoded};
 ghost use Rattle.consistency.specs.Reached.{ReachInAll, ReachMoreInAll};
-ghost use Rattle.std.specs.List.{AllZip};
+ghost use Rattle.std.specs.List.{All, AllZip};
+ghost use Rattle.consistency.specs.Marked.{Marked};
 ghost use Rattle.consistency.specs.Prepared.{IsPrepared, IsPreparedFor, IsRewriting, encoding_of, count_in_all};
 
+use crate::marks::Marks;
 use crate::rewriting::{Rewriting, Rewritings, rewrite_clashes};
-use dl_syntax::{Clash, Inclusion, Kind, Memory, Ontology};
+use dl_syntax::{Clash, Fact, Inclusion, Kind, Memory, Ontology};
 use perfect_ref::{RewriteFault, Rewriter};
 use std::alloc::Global;
 use std::marker::Model;
@@ -38,6 +40,13 @@ impl Clashes {
         ensures reached { result ≡ self.now.reached }
     {
         self.reached
+    }
+
+    /// The marks of facts over as many concepts and roles.
+    pub(crate) fn marks(&self, alloc: Global, facts: &[Fact]) -> Result<Marks, Memory>
+        ensures { IfOk result (λ marks. All (Marked marks) facts.now) }
+    {
+        Marks::new(alloc, self.concepts, self.roles, facts)
     }
 
     /// The rewritings, one for each clash.

@@ -4,9 +4,15 @@
 mod clashes;
 mod first;
 pub mod laws;
+mod marks;
+mod pairs;
 mod query;
+mod refute;
 mod rewriting;
 
 pub use clashes::{Clashes, prepare};
 pub use first::{first_clash, first_clash_closed};
 pub use perfect_ref::RewriteFault;
+
+#[cfg(test)]
+mod tests;

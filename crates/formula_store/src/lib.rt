@@ -9,4 +9,5 @@ mod store;
 mod tests;
 
 pub use link::Link;
+pub use std::alloc::AllocError as Memory;
 pub use store::Store;

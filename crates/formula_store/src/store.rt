@@ -4,11 +4,12 @@ ghost use Rattle.antichains.specs.Sets.{holds};
 ghost use Rattle.antichains.specs.Chain.{IsMinimal, values_at};
 ghost use Rattle.formula_store.specs.Interned.{interned, interned_all, AreDistinct};
 
+use crate::Memory;
 use crate::link::Link;
 use crate::pair::Pair;
 use antichains::{Chain, and, or, substitute};
 use indexmap::IndexSet;
-use std::alloc::{AllocError, Global};
+use std::alloc::Global;
 use std::collections::HashMap;
 use std::marker::Model;
 
@@ -57,7 +58,7 @@ impl Store {
     }
 
     /// The stored link of the link's chain, which is put last where it is new.
-    fn adopt(&mut self, link: Link) -> Result<Link, AllocError>
+    fn adopt(&mut self, link: Link) -> Result<Link, Memory>
         ensures link { IfOk result (λ l. l ≡ link) }
         ensures ok { OnOk result (self.new ≡ interned self.old link) }
         ensures err { OnErr result (self.new ≡ self.old) }
@@ -68,7 +69,7 @@ impl Store {
         }
         let copy = link.copy()?;
         let Some(clauses) = self.clauses.checked_add(more) else {
-            return Err(AllocError);
+            return Err(Memory);
         };
         self.links.insert(link)?;
         self.clauses = clauses;
@@ -76,7 +77,7 @@ impl Store {
     }
 
     /// The link of a chain, which is put last where it is new.
-    pub fn intern(&mut self, chain: Chain) -> Result<Link, AllocError>
+    pub fn intern(&mut self, chain: Chain) -> Result<Link, Memory>
         ensures link { IfOk result (λ l. l ≡ chain) }
         ensures ok { OnOk result (self.new ≡ interned self.old chain) }
         ensures err { OnErr result (self.new ≡ self.old) }
@@ -102,7 +103,7 @@ impl Store {
     }
 
     /// The link of the chain that holds where both do.
-    pub fn both(&mut self, a: &Link, b: &Link) -> Result<Link, AllocError>
+    pub fn both(&mut self, a: &Link, b: &Link) -> Result<Link, Memory>
         ensures link { IfOk result (IsMinimal (λ v. holds a.now v && holds b.now v)) }
         ensures ok { IfOk result (λ l. self.new ≡ interned self.old l) }
         ensures err { OnErr result (self.new ≡ self.old) }
@@ -126,7 +127,7 @@ impl Store {
     }
 
     /// The link of the chain that holds where either does.
-    pub fn either(&mut self, a: &Link, b: &Link) -> Result<Link, AllocError>
+    pub fn either(&mut self, a: &Link, b: &Link) -> Result<Link, Memory>
         ensures link { IfOk result (IsMinimal (λ v. holds a.now v || holds b.now v)) }
         ensures ok { IfOk result (λ l. self.new ≡ interned self.old l) }
         ensures err { OnErr result (self.new ≡ self.old) }
@@ -150,7 +151,7 @@ impl Store {
     }
 
     /// The link of the chain with each node replaced by its value; a node without one is false.
-    pub fn substituted(&mut self, link: &Link, values: &[Link]) -> Result<Link, AllocError>
+    pub fn substituted(&mut self, link: &Link, values: &[Link]) -> Result<Link, Memory>
         ensures link { IfOk result (IsMinimal (λ v. holds link.now (values_at values.now v))) }
         ensures ok { IfOk result (λ l. self.new ≡ interned self.old l) }
         ensures err { OnErr result (self.new ≡ self.old) }
@@ -168,7 +169,7 @@ impl Store {
     }
 
     /// A store of the distinct chains of the links in order of their first occurrence, with nothing remembered, and links of the same chains in the same order.
-    pub fn next_generation(alloc: Global, links: &[Link]) -> Result<(Store, Vec<Link>), AllocError>
+    pub fn next_generation(alloc: Global, links: &[Link]) -> Result<(Store, Vec<Link>), Memory>
         ensures list { IfOk result (λ r. r.0 ≡ interned_all [] links.now) }
         ensures same { IfOk result (λ r. r.1.items ≡ links.now) }
     {
@@ -183,7 +184,7 @@ impl Store {
 }
 
 /// The chain of each link.
-fn chains_of(alloc: Global, links: &[Link]) -> Result<Vec<Chain>, AllocError>
+fn chains_of(alloc: Global, links: &[Link]) -> Result<Vec<Chain>, Memory>
     ensures { IfOk result (λ chains. chains.items ≡ links.now) }
 {
     let mut chains = Vec::with_capacity(alloc, links.len())?;

@@ -1,10 +1,10 @@
+use crate::Memory;
 use crate::link::Link;
 use crate::store::Store;
 use antichains::{Chain, from_sets};
-use std::alloc::AllocError;
 
 #[test]
-fn keeps_each_chain_once(rt: HostRuntime) -> Result<(), AllocError> {
+fn keeps_each_chain_once(rt: HostRuntime) -> Result<(), Memory> {
     let alloc = rt.alloc();
     let mut store = Store::new(alloc);
     let one = store.intern(from_sets(alloc, &[1])?)?;
@@ -28,7 +28,7 @@ fn keeps_each_chain_once(rt: HostRuntime) -> Result<(), AllocError> {
 }
 
 #[test]
-fn drops_what_no_link_has(rt: HostRuntime) -> Result<(), AllocError> {
+fn drops_what_no_link_has(rt: HostRuntime) -> Result<(), Memory> {
     let alloc = rt.alloc();
     let mut store = Store::new(alloc);
     let _one = store.intern(from_sets(alloc, &[1])?)?;
@@ -43,7 +43,7 @@ fn drops_what_no_link_has(rt: HostRuntime) -> Result<(), AllocError> {
 }
 
 #[test]
-fn substitutes(rt: HostRuntime) -> Result<(), AllocError> {
+fn substitutes(rt: HostRuntime) -> Result<(), Memory> {
     let alloc = rt.alloc();
     let mut store = Store::new(alloc);
     let pair = store.intern(from_sets(alloc, &[3])?)?;

@@ -1,6 +1,6 @@
 -- Where nothing fails a run is done, but for want of memory.
-use Rattle.std.proofs.Common.{◌≡◌, ℕ, ◌≤◌, inl, inr, Option, None, Some, Ok, Err, List, [], ◌∷◌, ◌++◌, length, refl, sym, ◌∙◌, ap, subst, arith, length-append}
-use Rattle.std.specs.Prelude.{◌⊎◌}
+use Rattle.std.proofs.Common.{◌≡◌, true, false, nat_eq, ℕ, ◌≤◌, inl, inr, Option, None, Some, Ok, Err, List, [], ◌∷◌, ◌++◌, length, refl, sym, ◌∙◌, ap, subst, arith, length-append}
+use Rattle.std.specs.Prelude.{◌⊎◌, codes}
 use Rattle.dl_syntax.specs.Ontology.{Declared}
 use Rattle.edge_io.specs.Held.{Store, Lacks}
 use Rattle.edge_io.specs.Known.{Takes}
@@ -9,10 +9,11 @@ use Rattle.tcq_reader.specs.Reading.{SaysQueries}
 use Rattle.monitor_core.specs.Setting.{IsPlain}
 use Rattle.monitor_run.specs.declared.ending.Status.TheVariants as status
 use Rattle.monitor_run.specs.declared.ending.Ending.{Ending}
-use Rattle.monitor_run.specs.declared.ending.Ending.TheVariants.{Done, Usage, BadOntology, UnbuiltOntology, BadQueries, UnbuiltQueries, ReadFault, WriteFault, Memory, StreamLimit}
+use Rattle.monitor_run.specs.declared.ending.Ending.TheVariants.{Done, Usage, BadOntology, UnbuiltOntology, TooManyRewritings, BadQueries, UnbuiltQueries, ReadFault, WriteFault, Memory, StreamLimit}
 use Rattle.monitor_run.specs.Ends.{status_of}
 use Rattle.monitor_run.specs.Laws.{IsGood, Completeness}
 use Rattle.monitor_run.specs.Opening.{AreWatch, HasText, SaysOntology, AreAnswerable, RefusesQueries}
+use Rattle.monitor_run.specs.Sources.{AreRewrite}
 use Rattle.monitor_run.specs.Running.{Outside, RunEnds}
 use Rattle.monitor_run.proofs.QueryTexts.{one_saying, no_fault}
 
@@ -24,14 +25,24 @@ same_names words o q o' q' one other =
     let second : q' ≡ q = cc in
     (first, second)
 
+-- no words are those of both commands
+pub never_both : (words : List (List ℕ)) (o q o' q' : List ℕ) → AreWatch words o q → AreRewrite words o' q' → ⊥
+never_both words o q o' q' one other =
+    let same : one.command ∷ o ∷ q ∷ [] ≡ other.command ∷ o' ∷ q' ∷ [] = sym one.words_are ∙ other.words_are in
+    let commands : one.command ≡ other.command = cc in
+    let both : codes "watch" ≡ codes "rewrite" = sym one.watch.command_is ∙ (commands ∙ other.rewrite.command_is) in
+    let lengths : 5 ≡ 7 = ap length both in
+    let test : false ≡ true = ap (λ (n : ℕ). nat_eq n 5) (sym lengths) in
+    cc
+
 -- a file has one text
-same_text : (held : Option Store) (files : Store) (name name' text text' : List ℕ) → held ≡ Some files → files name ≡ Some text → name' ≡ name → HasText held name' text' → text' ≡ text
+pub same_text : (held : Option Store) (files : Store) (name name' text text' : List ℕ) → held ≡ Some files → files name ≡ Some text → name' ≡ name → HasText held name' text' → text' ≡ text
 same_text held files name name' text text' told there same has =
     let here : HasText (Some files) name text' = subst (λ (n : List ℕ). HasText (Some files) n text') same (subst (λ (h : Option Store). HasText h name' text') told has) in
     let both : Some text' ≡ Some text = sym here ∙ there in
     cc
 
-never_lacks : (held : Option Store) (files : Store) (name name' text : List ℕ) → held ≡ Some files → files name ≡ Some text → name' ≡ name → ¬ Lacks held name'
+pub never_lacks : (held : Option Store) (files : Store) (name name' text : List ℕ) → held ≡ Some files → files name ≡ Some text → name' ≡ name → ¬ Lacks held name'
 never_lacks held files name name' text told there same lacks =
     let here : Lacks (Some files) name = subst (λ (n : List ℕ). Lacks (Some files) n) same (subst (λ (h : Option Store). Lacks h name') told lacks) in
     let none : Some text ≡ None = sym there ∙ here in
@@ -65,30 +76,30 @@ module _ (words : List (List ℕ)) (before now : Outside) (good : IsGood words b
   complete Done ends = inl refl
   complete Memory ends = inr refl
   complete Usage ends = absurd (ends.0 good.ontology_name good.queries_name good.words_are)
-  complete (BadOntology line kind) (o, q, are, refused) =
+  complete (BadOntology line kind) (o, q, inl (are, refused)) =
       let names = same_names words good.ontology_name good.queries_name o q good.words_are are in
       let text = one_ontology o refused.refuses.text names.0 refused.refuses.has in
       let fault = refused.refuses.refused in
       let both : Err (line, kind) ≡ Ok good.ontology = sym fault ∙ (ap text_says text ∙ good.ontology_says.says) in
       cc
-  complete UnbuiltOntology (o, q, are, refused) =
+  complete UnbuiltOntology (o, q, inl (are, refused)) =
       let names = same_names words good.ontology_name good.queries_name o q good.words_are are in
       let text = one_ontology o refused.refuses.text names.0 refused.refuses.has in
       let fault = refused.refuses.refused in
       let both : Ok fault.0 ≡ Ok good.ontology = sym fault.1 ∙ (ap text_says text ∙ good.ontology_says.says) in
       let same : good.ontology ≡ fault.0 = cc in
       absurd (fault.2 (subst IsPlain same good.ontology_says.plain))
-  complete (BadQueries line kind) (o, q, are, refused) =
+  complete (BadQueries line kind) (o, q, inl (are, refused)) =
       let names = same_names words good.ontology_name good.queries_name o q good.words_are are in
       let both = refused.refuses in
       absurd (no_fault both.ontology both.text good.queries line (same_saying (BadQueries line kind) o q names.0 names.1 both) kind both.refused)
-  complete UnbuiltQueries (o, q, are, refused) =
+  complete UnbuiltQueries (o, q, inl (are, refused)) =
       let names = same_names words good.ontology_name good.queries_name o q good.words_are are in
       let both = refused.refuses in
       let unbuilt = both.refused in
       let same = one_saying both.ontology both.text good.queries unbuilt.0 (same_saying UnbuiltQueries o q names.0 names.1 both) unbuilt.1 in
       absurd (unbuilt.2 (subst AreAnswerable same good.queries_say.are))
-  complete ReadFault (o, q, are, inl refused) =
+  complete ReadFault (o, q, inl (are, inl refused)) =
       let names = same_names words good.ontology_name good.queries_name o q good.words_are are in
       elim refused.refuses [
         | inl rose ↦ absurd (good.no_file_fault rose)
@@ -97,12 +108,21 @@ module _ (words : List (List ℕ)) (before now : Outside) (good : IsGood words b
           | inr lacks ↦ absurd (never_lacks before.held good.files good.queries_name q good.queries_text good.held good.queries_there names.1 lacks)
         ]
       ]
-  complete ReadFault (o, q, are, inr (rose, watched)) = absurd (good.no_read_fault rose)
-  complete WriteFault (o, q, are, (rose, watched)) = absurd (good.no_write_fault rose)
-  complete StreamLimit (o, q, are, watched) =
+  complete ReadFault (o, q, inl (are, inr (rose, watched))) = absurd (good.no_read_fault rose)
+  complete WriteFault (o, q, inl (are, (rose, watched))) = absurd (good.no_write_fault rose)
+  complete StreamLimit (o, q, inl (are, watched)) =
       let taken = watched.watched.taken in
       let within = taken_within before.left now.left good.stream taken good.left watched.watched.takes in
       absurd (omega (arith, within, good.short, watched.watched.writes.0))
+  complete (BadOntology line kind) (o, q, inr (are, ends)) = absurd (never_both words good.ontology_name good.queries_name o q good.words_are are)
+  complete UnbuiltOntology (o, q, inr (are, ends)) = absurd (never_both words good.ontology_name good.queries_name o q good.words_are are)
+  complete TooManyRewritings (o, q, inr (are, ends)) = absurd (never_both words good.ontology_name good.queries_name o q good.words_are are)
+  complete (BadQueries line kind) (o, q, inr (are, ends)) = absurd (never_both words good.ontology_name good.queries_name o q good.words_are are)
+  complete UnbuiltQueries (o, q, inr (are, ends)) = absurd (never_both words good.ontology_name good.queries_name o q good.words_are are)
+  complete ReadFault (o, q, inr (are, ends)) = absurd (never_both words good.ontology_name good.queries_name o q good.words_are are)
+  complete WriteFault (o, q, inr (are, ends)) = absurd (never_both words good.ontology_name good.queries_name o q good.words_are are)
+  complete StreamLimit (o, q, inr (are, ends)) = absurd (never_both words good.ontology_name good.queries_name o q good.words_are are)
+  complete TooManyRewritings (o, q, inl (are, ends)) = absurd ends
 
 pub completeness : Completeness
 completeness s words before now eb en fb fn ran good =

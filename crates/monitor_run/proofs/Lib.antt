@@ -9,3 +9,9 @@ mod QueryTexts
 mod Texts
 mod RunLaws
 mod Completing
+mod Counts
+mod Gathering
+mod SourceTexts
+mod SortedTexts
+mod OneText
+mod CompleteRewriting

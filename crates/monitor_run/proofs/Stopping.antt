@@ -19,7 +19,7 @@ use Rattle.monitor_core.specs.Standing.{count_of}
 use Rattle.monitor_run.specs.Told.{Told}
 use Rattle.monitor_core.specs.Standing.{setting_of, Stands}
 use Rattle.monitor_run.specs.declared.ending.Ending.{Ending}
-use Rattle.monitor_run.specs.declared.ending.Ending.TheVariants.{Done, Usage, BadOntology, UnbuiltOntology, BadQueries, UnbuiltQueries, ReadFault, WriteFault, Memory, StreamLimit}
+use Rattle.monitor_run.specs.declared.ending.Ending.TheVariants.{Done, Usage, BadOntology, UnbuiltOntology, TooManyRewritings, BadQueries, UnbuiltQueries, ReadFault, WriteFault, Memory, StreamLimit}
 use Rattle.monitor_run.specs.Ends.{ending_of, IsFinished, Finishes}
 use Rattle.monitor_run.specs.Report.{text_of, bytes_of_item, end_item, Report, Part}
 use Rattle.monitor_run.specs.Watching.{BeginsReport, IsCutShort, Wrote, Watched}
@@ -146,6 +146,7 @@ module _ (setting : Setting) (history : History) (lb ln gb gn : Option (List ℕ
   ends_by Usage at_end taken wrote end ended within report is = is
   ends_by (BadOntology line kind) at_end taken wrote end ended within report is = is
   ends_by UnbuiltOntology at_end taken wrote end ended within report is = is
+  ends_by TooManyRewritings at_end taken wrote end ended within report is = is
   ends_by (BadQueries line kind) at_end taken wrote end ended within report is = is
   ends_by UnbuiltQueries at_end taken wrote end ended within report is = is
   ends_by ReadFault at_end taken wrote end ended within report is = absurd is

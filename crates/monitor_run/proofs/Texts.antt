@@ -13,12 +13,12 @@ use Rattle.tcq_reader.specs.declared.faults.QueryKind.{QueryKind}
 use Rattle.tcq_reader.specs.Reading.{SaysQueries, IsFault}
 use Rattle.monitor_core.specs.Setting.{Setting}
 use Rattle.monitor_run.specs.declared.ending.Ending.{Ending}
-use Rattle.monitor_run.specs.declared.ending.Ending.TheVariants.{Done, Usage, BadOntology, UnbuiltOntology, BadQueries, UnbuiltQueries, ReadFault, WriteFault, Memory, StreamLimit}
+use Rattle.monitor_run.specs.declared.ending.Ending.TheVariants.{Done, Usage, BadOntology, UnbuiltOntology, TooManyRewritings, BadQueries, UnbuiltQueries, ReadFault, WriteFault, Memory, StreamLimit}
 use Rattle.monitor_run.specs.Opening.{HasText, SaysOntology, SaysAnswerable, IsOntologyRefused, AreQueriesRefused, Opens, RefusesQueries, Refuses}
 use Rattle.monitor_run.proofs.QueryTexts.{fault_too_long}
 
 -- the bytes are the text, or both have more bytes than the limit
-abbrev Cut : ℕ → List ℕ → List ℕ → Type 0
+abbrev pub Cut : ℕ → List ℕ → List ℕ → Type 0
 Cut limit text bytes = (text ≡ bytes) ⊎ ((limit < length text) × (limit < length bytes))
 
 cut_of : (limit : ℕ) (text bytes : List ℕ) → bytes ≡ take (limit + 1) text → Cut limit text bytes
@@ -48,15 +48,15 @@ too_long text long =
     let test : nat_lt 4194304 (length text) ≡ true = grind (arith, nat_tests) in
     ap (λ b. cond b (Err (0, TooLong)) (lines_added 0 nothing_declared (lines_of text))) test
 
-same_ontology : (text bytes : List ℕ) → Cut 4194304 text bytes → text_says text ≡ text_says bytes
+pub same_ontology : (text bytes : List ℕ) → Cut 4194304 text bytes → text_says text ≡ text_says bytes
 same_ontology text bytes (inl same) = ap text_says same
 same_ontology text bytes (inr long) = too_long text long.0 ∙ sym (too_long bytes long.1)
 
-queries_there : (ontology : Declared) (text bytes : List ℕ) (queries : List Tcq) → Cut 4194304 text bytes → SaysQueries ontology bytes queries → SaysQueries ontology text queries
+pub queries_there : (ontology : Declared) (text bytes : List ℕ) (queries : List Tcq) → Cut 4194304 text bytes → SaysQueries ontology bytes queries → SaysQueries ontology text queries
 queries_there ontology text bytes queries (inl same) says = subst (λ (t : List ℕ). SaysQueries ontology t queries) (sym same) says
 queries_there ontology text bytes queries (inr long) says = let short : length bytes ≤ 4194304 = says.short in absurd (omega (arith, long.1))
 
-fault_there : (ontology : Declared) (text bytes : List ℕ) (line : ℕ) (kind : QueryKind) → Cut 4194304 text bytes → IsFault ontology bytes line kind → IsFault ontology text line kind
+pub fault_there : (ontology : Declared) (text bytes : List ℕ) (line : ℕ) (kind : QueryKind) → Cut 4194304 text bytes → IsFault ontology bytes line kind → IsFault ontology text line kind
 fault_there ontology text bytes line kind (inl same) is = subst (λ (t : List ℕ). IsFault ontology t line kind) (sym same) is
 fault_there ontology text bytes line kind (inr long) is = fault_too_long ontology bytes text line long.1 long.0 kind is
 
@@ -69,6 +69,7 @@ refused_there text bytes UnbuiltOntology cut is = (is.0, same_ontology text byte
 refused_there text bytes Memory cut is = is
 refused_there text bytes Done cut is = is
 refused_there text bytes Usage cut is = is
+refused_there text bytes TooManyRewritings cut is = is
 refused_there text bytes (BadQueries line kind) cut is = is
 refused_there text bytes UnbuiltQueries cut is = is
 refused_there text bytes ReadFault cut is = is
@@ -85,6 +86,7 @@ refuses_ontology held before now name queries bytes read UnbuiltOntology is same
 refuses_ontology held before now name queries bytes read Memory is same refused = tt
 refuses_ontology held before now name queries bytes read Done is same refused = refused
 refuses_ontology held before now name queries bytes read Usage is same refused = refused
+refuses_ontology held before now name queries bytes read TooManyRewritings is same refused = refused
 refuses_ontology held before now name queries bytes read (BadQueries line kind) is same refused = absurd refused
 refuses_ontology held before now name queries bytes read UnbuiltQueries is same refused = absurd refused
 refuses_ontology held before now name queries bytes read ReadFault is same refused = absurd refused
@@ -127,6 +129,7 @@ queries_refused_there ontology text bytes Done cut is = is
 queries_refused_there ontology text bytes Usage cut is = is
 queries_refused_there ontology text bytes (BadOntology line kind) cut is = is
 queries_refused_there ontology text bytes UnbuiltOntology cut is = is
+queries_refused_there ontology text bytes TooManyRewritings cut is = is
 queries_refused_there ontology text bytes ReadFault cut is = is
 queries_refused_there ontology text bytes WriteFault cut is = is
 queries_refused_there ontology text bytes StreamLimit cut is = is
@@ -153,6 +156,7 @@ refuses_queries held before now name queries ontology text Done both refused = r
 refuses_queries held before now name queries ontology text Usage both refused = refused
 refuses_queries held before now name queries ontology text (BadOntology line kind) both refused = absurd refused
 refuses_queries held before now name queries ontology text UnbuiltOntology both refused = absurd refused
+refuses_queries held before now name queries ontology text TooManyRewritings both refused = refused
 refuses_queries held before now name queries ontology text ReadFault both refused = absurd refused
 refuses_queries held before now name queries ontology text WriteFault both refused = refused
 refuses_queries held before now name queries ontology text StreamLimit both refused = refused

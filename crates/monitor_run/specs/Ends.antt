@@ -11,7 +11,7 @@ use Rattle.edge_io.specs.Known.{Gains, IsFront}
 use Rattle.monitor_run.specs.declared.ending.Status.{Status}
 use Rattle.monitor_run.specs.declared.ending.Status.TheVariants as status
 use Rattle.monitor_run.specs.declared.ending.Ending.{Ending}
-use Rattle.monitor_run.specs.declared.ending.Ending.TheVariants.{Done, Usage, BadOntology, UnbuiltOntology, BadQueries, UnbuiltQueries, ReadFault, WriteFault, Memory, StreamLimit}
+use Rattle.monitor_run.specs.declared.ending.Ending.TheVariants.{Done, Usage, BadOntology, UnbuiltOntology, TooManyRewritings, BadQueries, UnbuiltQueries, ReadFault, WriteFault, Memory, StreamLimit}
 
 abbrev pub ending_of : ReadEnd → Ending
 ending_of ends.ReadFault = ReadFault
@@ -22,6 +22,7 @@ status_of Done = status.Done
 status_of Usage = status.Usage
 status_of (BadOntology line kind) = status.BadOntology
 status_of UnbuiltOntology = status.BadOntology
+status_of TooManyRewritings = status.BadOntology
 status_of (BadQueries line kind) = status.BadQueries
 status_of UnbuiltQueries = status.BadQueries
 status_of ReadFault = status.ReadFault
@@ -53,6 +54,7 @@ message_of Done = []
 message_of Usage = codes "tom: usage"
 message_of (BadOntology line kind) = codes "tom: ontology line " ++ decimal line ++ codes ": " ++ kind_text kind
 message_of UnbuiltOntology = codes "tom: ontology: unbuilt"
+message_of TooManyRewritings = codes "tom: ontology: too-many-rewritings"
 message_of (BadQueries line kind) = codes "tom: queries line " ++ decimal line ++ codes ": " ++ query_kind_text kind
 message_of UnbuiltQueries = codes "tom: queries: unbuilt"
 message_of ReadFault = codes "tom: read fault"

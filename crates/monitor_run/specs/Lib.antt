@@ -10,3 +10,8 @@ pub mod Opening
 pub mod Running
 pub mod Laws
 pub mod ReportLaws
+pub mod Leaves
+pub mod Reaching
+pub mod Sources
+pub mod Rewriting
+pub mod RewritingLaws

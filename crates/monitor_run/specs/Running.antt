@@ -8,10 +8,12 @@ use Rattle.monitor_core.specs.Setting.{Setting}
 use Rattle.monitor_core.specs.Standing.{no_history}
 use Rattle.monitor_run.specs.declared.ending.Status.{Status}
 use Rattle.monitor_run.specs.declared.ending.Ending.{Ending}
-use Rattle.monitor_run.specs.declared.ending.Ending.TheVariants.{Done, Usage, BadOntology, UnbuiltOntology, BadQueries, UnbuiltQueries, ReadFault, WriteFault, Memory, StreamLimit}
+use Rattle.monitor_run.specs.declared.ending.Ending.TheVariants.{Done, Usage, BadOntology, UnbuiltOntology, TooManyRewritings, BadQueries, UnbuiltQueries, ReadFault, WriteFault, Memory, StreamLimit}
 use Rattle.monitor_run.specs.Ends.{status_of, line_of}
 use Rattle.monitor_run.specs.Opening.{AreWatch, IsWatch, Opens, Refuses}
 use Rattle.monitor_run.specs.Watching.{Watched}
+use Rattle.monitor_run.specs.Sources.{AreRewrite, IsRewrite}
+use Rattle.monitor_run.specs.Rewriting.{RewriteEnds}
 
 -- what files, input and output tell, and their counts of faults
 pub record Outside : Type 0 where
@@ -44,6 +46,7 @@ FilesEnd Done ontology queries before now = WatchedFiles Done ontology queries b
 FilesEnd Usage ontology queries before now = ⊥
 FilesEnd (BadOntology line kind) ontology queries before now = RefusedFiles (BadOntology line kind) ontology queries before now
 FilesEnd UnbuiltOntology ontology queries before now = RefusedFiles UnbuiltOntology ontology queries before now
+FilesEnd TooManyRewritings ontology queries before now = ⊥
 FilesEnd (BadQueries line kind) ontology queries before now = RefusedFiles (BadQueries line kind) ontology queries before now
 FilesEnd UnbuiltQueries ontology queries before now = RefusedFiles UnbuiltQueries ontology queries before now
 FilesEnd ReadFault ontology queries before now = RefusedFiles ReadFault ontology queries before now ⊎ (Rose before.read_faults now.read_faults × WatchedFiles ReadFault ontology queries before now)
@@ -51,15 +54,30 @@ FilesEnd WriteFault ontology queries before now = Rose before.write_faults now.w
 FilesEnd Memory ontology queries before now = IsUntouched before now ⊎ WatchedFiles Memory ontology queries before now
 FilesEnd StreamLimit ontology queries before now = WatchedFiles StreamLimit ontology queries before now
 
+-- how a rewriting of the files of these names ended, which takes nothing from the input
+abbrev pub RewriteRuns : Ending → List ℕ → List ℕ → Outside → Outside → Type 0
+RewriteRuns ending ontology queries before now =
+    (now.left ≡ before.left)
+    × RewriteEnds ending ontology queries before.held before.file_faults now.file_faults before.got now.got before.write_faults now.write_faults
+
 -- how a run of three words ended
 abbrev pub ThreeEnd : Ending → List ℕ → List ℕ → List ℕ → Outside → Outside → Type 0
-ThreeEnd Usage command ontology queries before now = (¬ IsWatch command ontology queries) × IsUntouched before now
-ThreeEnd ending command ontology queries before now = IsWatch command ontology queries × FilesEnd ending ontology queries before now
+ThreeEnd Usage command ontology queries before now =
+    (¬ IsWatch command ontology queries) × (¬ IsRewrite command ontology queries) × IsUntouched before now
+ThreeEnd ending command ontology queries before now =
+    (IsWatch command ontology queries × FilesEnd ending ontology queries before now)
+    ⊎ (IsRewrite command ontology queries × RewriteRuns ending ontology queries before now)
 
--- how a run of these words ended
+-- how a run of these words ended: those of no command, those of `watch`, and those of `rewrite`
 abbrev pub RunEnds : Ending → List (List ℕ) → Outside → Outside → Type 0
-RunEnds Usage words before now = ((ontology queries : List ℕ) → ¬ AreWatch words ontology queries) × IsUntouched before now
-RunEnds ending words before now = (ontology queries : List ℕ) × AreWatch words ontology queries × FilesEnd ending ontology queries before now
+RunEnds Usage words before now =
+    ((ontology queries : List ℕ) → ¬ AreWatch words ontology queries)
+    × ((ontology queries : List ℕ) → ¬ AreRewrite words ontology queries)
+    × IsUntouched before now
+RunEnds ending words before now =
+    (ontology queries : List ℕ)
+    × ((AreWatch words ontology queries × FilesEnd ending ontology queries before now)
+    ⊎ (AreRewrite words ontology queries × RewriteRuns ending ontology queries before now))
 
 -- the error sink gained a beginning of the line, and all of it unless its count of faults rose
 pub record Says (before now : Option (List ℕ)) (faults_before faults_now : ℕ) (line : List ℕ) : Type 0 where

@@ -6,8 +6,9 @@ ghost use Rattle.monitor_run.specs.Running.{FilesEnd, ThreeEnd, RunEnds, Says, R
 use crate::ending::{Ending, Status};
 use crate::error_line::error_line;
 use crate::opening::open_files;
+use crate::rewriting_files::rewrite_files;
 use crate::running::watch;
-use crate::words::is_watch;
+use crate::words::{is_rewrite, is_watch};
 use edge_io::{Files, Sink, Source, write_all};
 use std::alloc::Global;
 
@@ -44,10 +45,13 @@ fn run_three<F: Files, S: Source, K: Sink>(
     ensures files { F.held files.new ≡ F.held files.old }
 {
     let (command, ontology, queries) = words;
-    if !is_watch(command, ontology, queries) {
-        return Ending::Usage;
+    if is_watch(command, ontology, queries) {
+        watch_files(alloc, ontology, queries, files, input, out)
+    } else if is_rewrite(command, ontology, queries) {
+        rewrite_files(alloc, ontology, queries, files, out)
+    } else {
+        Ending::Usage
     }
-    watch_files(alloc, ontology, queries, files, input, out)
 }
 
 /// Does what the words name.
@@ -78,6 +82,7 @@ fn status(ending: Ending) -> Status
         Ending::Usage => Status::Usage,
         Ending::BadOntology(_, _) => Status::BadOntology,
         Ending::UnbuiltOntology => Status::BadOntology,
+        Ending::TooManyRewritings => Status::BadOntology,
         Ending::BadQueries(_, _) => Status::BadQueries,
         Ending::UnbuiltQueries => Status::BadQueries,
         Ending::ReadFault => Status::ReadFault,
@@ -96,7 +101,8 @@ fn say<E: Sink>(ending: Ending, err: &mut E)
 }
 
 /// Runs the command that the words name: `watch ONTOLOGY QUERIES` reads the two files, watches
-/// `input` to its end and writes the report to `out`. What a status means is told on `err`.
+/// `input` to its end and writes the report to `out`; `rewrite ONTOLOGY QUERIES` reads the two files
+/// and writes the rewritings of all leaves to `out`. What a status means is told on `err`.
 pub fn run<F: Files, S: Source, K: Sink, E: Sink>(
     alloc: Global,
     words: &[String],

@@ -1,5 +1,6 @@
 //! Laws of runs and of their reports, each the contract of a function with nothing to do.
 ghost use Rattle.monitor_run.specs.Laws.{Completeness};
+ghost use Rattle.monitor_run.specs.RewritingLaws.{OneRewriting, RewritingCompleteness};
 ghost use Rattle.monitor_run.specs.ReportLaws.{OneOutcome, OneTold, ToldJoined, ToldParts, OneReport, OnePart, BeginsPart, BeginsWhole, CutShort};
 
 /// Where the words name files without a fault, the stream is within its limit and no count of faults
@@ -51,4 +52,15 @@ pub fn begins_whole()
 /// What a run that was cut short wrote is a beginning of each report.
 pub fn cut_short()
     ensures { CutShort }
+{}
+
+/// The rewritings of the same queries are one text.
+pub fn one_rewriting()
+    ensures { OneRewriting }
+{}
+
+/// Where the words name files without a fault, what they ask reaches no more than it may, and no count
+/// of faults rose, a rewriting is done with the whole text, or found no memory.
+pub fn rewriting_completeness()
+    ensures { RewritingCompleteness }
 {}

@@ -1,4 +1,4 @@
-//! The top call: it watches a stream and writes a report.
+//! The top call: it watches a stream and writes a report, or writes the rewritings of queries.
 #![tactic(auto)]
 
 mod answerable;
@@ -6,9 +6,14 @@ mod command;
 mod ending;
 mod error_line;
 pub mod laws;
+mod leaf_texts;
 mod opening;
+mod reaching;
 mod reply;
+mod rewriting;
+mod rewriting_files;
 mod running;
+mod sources;
 mod telling;
 #[cfg(test)]
 mod tests;

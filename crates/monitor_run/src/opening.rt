@@ -19,7 +19,7 @@ use tcq_syntax::Query;
 const TEXT_LIMIT: u64 = 4_194_304;
 
 /// The first bytes of the file of this name.
-fn fetch<F: Files>(alloc: Global, files: &mut F, name: &str) -> Result<Vec<u8>, Ending>
+pub fn fetch<F: Files>(alloc: Global, files: &mut F, name: &str) -> Result<Vec<u8>, Ending>
     ensures bytes { IfOk result (λ bytes. IsFetched (F.held files.old) name.now 4194304 bytes.items) }
     ensures refused { IfErr result (λ ending. IsFetchRefused (F.held files.old) (F.faults files.old) (F.faults files.new) name.now ending) }
     ensures held { F.held files.new ≡ F.held files.old }

@@ -1,6 +1,7 @@
 ghost use Rattle.std.specs.Prelude.{◌≤◌};
 
 mod queries;
+mod rewriting;
 
 use crate::{Status, run};
 use edge_io::{MemFiles, MemSink, MemSource};
@@ -12,21 +13,31 @@ const ONTOLOGY: &[u8] =
 
 const QUERIES: &[u8] = b"query f (?x) = [Failed(?x)] ;\n";
 
-/// The files O and Q, of which O has this text.
-fn files(alloc: Global, ontology: &[u8]) -> Result<MemFiles, Fail> {
+/// The files O and Q with these texts.
+fn files_of(alloc: Global, ontology: &[u8], queries: &[u8]) -> Result<MemFiles, Fail> {
     let mut files = Vec::new(alloc);
     files.push((String::from_str(alloc, "O")?, ontology.to_vec(alloc)?))?;
-    files.push((String::from_str(alloc, "Q")?, QUERIES.to_vec(alloc)?))?;
+    files.push((String::from_str(alloc, "Q")?, queries.to_vec(alloc)?))?;
     Ok(MemFiles::new(files, Vec::new(alloc)))
+}
+
+/// The files O and Q, of which O has this text.
+fn files(alloc: Global, ontology: &[u8]) -> Result<MemFiles, Fail> {
+    files_of(alloc, ontology, QUERIES)
+}
+
+/// This command with O and Q.
+fn words_for(alloc: Global, command: &str) -> Result<Vec<String>, Fail> {
+    let mut words = Vec::new(alloc);
+    for word in [command, "O", "Q"] {
+        words.push(String::from_str(alloc, word)?)?;
+    }
+    Ok(words)
 }
 
 /// The words `watch O Q`.
 fn words(alloc: Global) -> Result<Vec<String>, Fail> {
-    let mut words = Vec::new(alloc);
-    for word in ["watch", "O", "Q"] {
-        words.push(String::from_str(alloc, word)?)?;
-    }
-    Ok(words)
+    words_for(alloc, "watch")
 }
 
 /// Runs a stream that comes in steps, where the listed reads and writes of the output fail.

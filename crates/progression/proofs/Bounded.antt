@@ -1,6 +1,6 @@
 -- A formula looks at its own future nodes alone, so its minimal sets have no others.
-use Rattle.std.proofs.Common.{◌≡◌, ℕ, zero, ◌+◌, ◌-◌, ◌*◌, ◌%◌, ◌^◌, ◌<◌, ◌≤◌, Bool, true, false, List, [], ◌∷◌, length, get_or, bit_and, inl, inr, refl, sym, ◌∙◌, ap, subst, arith}
-use Rattle.std.specs.Prelude.{◌↔◌, ◌⊎◌}
+use Rattle.std.proofs.Common.{◌≡◌, ℕ, ◌+◌, ◌-◌, ◌*◌, ◌%◌, ◌^◌, ◌<◌, ◌≤◌, Bool, true, false, List, length, get_or, bit_and, inl, inr, refl, sym, ◌∙◌, ap, subst, arith}
+use Rattle.std.specs.Prelude.{◌↔◌}
 use Rattle.std.specs.List.{Contains, AllPairs, All}
 use Rattle.std.specs.Int.Bits.{and_self}
 use Rattle.std.proofs.lemmas.Nat.{and_assoc, and_comm, and_mask, pow_pos}
@@ -11,7 +11,7 @@ use Rattle.std.proofs.Math.Nat.{mod-lt}
 use Rattle.dl_syntax.specs.declared.names.IndId.{IndId}
 use Rattle.dl_syntax.specs.declared.ontology.Inclusion.{Inclusion}
 use Rattle.tcq_syntax.specs.Formula.{Formula, True, False, Leaf, And, Or, Next, WeakNext, Prev, WeakPrev, Until, Since, Eventually, Always, Once, Historically}
-use Rattle.tcq_syntax.specs.Histories.{History, with_snapshot}
+use Rattle.tcq_syntax.specs.Histories.{History}
 use Rattle.tcq_syntax.specs.End.{EndHolds, EachFuture, Has}
 use Rattle.tcq_syntax.specs.declared.nodes.Node.{Node}
 use Rattle.tcq_syntax.specs.Formula.{formula_at, IsTable}

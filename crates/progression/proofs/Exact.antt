@@ -9,8 +9,7 @@ use Rattle.dl_syntax.specs.declared.names.IndId.{IndId}
 use Rattle.dl_syntax.specs.declared.ontology.Inclusion.{Inclusion}
 use Rattle.tcq_syntax.specs.declared.nodes.Node.{Node}
 use Rattle.tcq_syntax.specs.declared.nodes.Node.TheVariants as node
-use Rattle.tcq_syntax.specs.Formula.{Formula, True, False, Leaf, And, Or, Next, WeakNext, Prev, WeakPrev, Until, Since, Eventually, Always, Once, Historically, formula_of, HasChildrenBelow}
-use Rattle.tcq_syntax.specs.Time.{LeafHolds}
+use Rattle.tcq_syntax.specs.Formula.{Formula, Prev, WeakPrev, Until, Since, Eventually, Always, Once, Historically, formula_of, HasChildrenBelow}
 use Rattle.tcq_syntax.specs.Histories.{History}
 use Rattle.tcq_syntax.specs.End.{EndHolds, Has}
 use Rattle.antichains.specs.Sets.{is_inside, holds}
@@ -108,12 +107,17 @@ module _ (inclusions : List Inclusion) (history : History) (row : List IndId) (v
             let parts = and_cases a (not first && c) y in
             let kept = and_cases (not first) c parts.1 in
             let later : 0 < n = positive first is_first (not_true first kept.0) in
-            let old = (before later).0 kept.1 in
-            (old.0, omega (arith, old.1), old.2, λ l low high. elim (cases_lt l n) [
-              | inl early ↦ old.3 l low (omega arith)
-              | inr end ↦ here f l end (omega (arith, last)) (at_f.0 parts.0)
-            ])
+            let old = (before later).0 kept.1 in (
+              old.0,
+              omega (arith, old.1),
+              old.2,
+              λ l low high. elim (cases_lt l n) [
+                | inl early ↦ old.3 l low (omega arith)
+                | inr end ↦ here f l end (omega (arith, last)) (at_f.0 parts.0)
+              ],
+            )
       ]
+
       from : At (Since f g) n → (b || (a && (not first && c))) ≡ true
       from h = elim (cases_lt h.0 n) [
         | inl early ↦
@@ -228,9 +232,10 @@ module _ (inclusions : List Inclusion) (history : History) (row : List IndId) (v
   node_exact first number place child formula before leaf is_first parts node.True below kept answer = (λ h. tt, λ h. refl)
   node_exact first number place child formula before leaf is_first parts node.False below kept answer = (λ h. true-false (sym h), λ h. absurd h)
   node_exact first number place child formula before leaf is_first parts (node.Leaf q) below kept answer = answer
-  node_exact first number place child formula before leaf is_first parts (node.And f g) below kept answer =
-      (λ h. let both = and_cases (holds (child f) v) (holds (child g) v) h in ((parts f below.0).0 both.0, (parts g below.1).0 both.1),
-      λ h. and_both (holds (child f) v) (holds (child g) v) ((parts f below.0).1 h.0) ((parts g below.1).1 h.1))
+  node_exact first number place child formula before leaf is_first parts (node.And f g) below kept answer = (
+    λ h. let both = and_cases (holds (child f) v) (holds (child g) v) h in ((parts f below.0).0 both.0, (parts g below.1).0 both.1),
+    λ h. and_both (holds (child f) v) (holds (child g) v) ((parts f below.0).1 h.0) ((parts g below.1).1 h.1),
+  )
   node_exact first number place child formula before leaf is_first parts (node.Or f g) below kept answer = (to, from)
     where
       to : (holds (child f) v || holds (child g) v) ≡ true → At (formula f) n ⊎ At (formula g) n

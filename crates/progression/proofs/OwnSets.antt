@@ -1,12 +1,12 @@
 -- The minimal sets that a step makes have only future nodes of the node's own part of the formula.
-use Rattle.std.proofs.Common.{◌≡◌, ◌≢◌, ℕ, zero, suc, ◌+◌, ◌-◌, ◌*◌, ◌^◌, ◌<◌, ◌≤◌, min, Bool, true, false, not, ◌&&◌, ◌||◌, List, [], ◌∷◌, length, bit_and, bit_or, get_or, inl, inr, refl, sym, ◌∙◌, ap, subst, arith}
-use Rattle.std.specs.Prelude.{◌⊎◌, Some, slice_get, slice_index_or, eqb}
+use Rattle.std.proofs.Common.{◌≡◌, ℕ, ◌^◌, ◌<◌, Bool, true, not, ◌&&◌, ◌||◌, List, [], bit_and, bit_or, get_or, inl, inr, refl, sym, ◌∙◌, ap, subst, arith}
+use Rattle.std.specs.Prelude.{◌⊎◌, Some, slice_get, slice_index_or}
 use Rattle.std.specs.Int.{bit_at}
-use Rattle.std.specs.List.{All, Contains}
+use Rattle.std.specs.List.{Contains}
 use Rattle.std.specs.Int.Bits.{and_self}
 use Rattle.std.proofs.lemmas.Bool.{cases_lt, false≢true}
 use Rattle.std.proofs.lemmas.Bool.Decides.{eqb_tells}
-use Rattle.std.proofs.lemmas.Nat.{and_assoc, and_comm, and_le_r}
+use Rattle.std.proofs.lemmas.Nat.{and_assoc}
 use Rattle.std.proofs.lemmas.Nat.Bits.{bit_at_and, bit_at_or, bit_at-lt, bit_at-pow_other, same_from_bits}
 use Rattle.std.proofs.lemmas.List.Elements.{All-contains, Contains-get_or}
 use Rattle.tcq_syntax.specs.declared.nodes.Node.{Node}
@@ -14,12 +14,12 @@ use Rattle.tcq_syntax.specs.declared.nodes.Node.TheVariants as node
 use Rattle.tcq_syntax.specs.Formula.{Formula, True, False, Leaf, And, Or, Next, WeakNext, Prev, WeakPrev, Until, Since, Eventually, Always, Once, Historically, formula_of, formula_at, number_at, is_future, HasChildrenBelow, IsTable}
 use Rattle.tcq_syntax.specs.End.{Has, Inside, EachFuture, future_set}
 use Rattle.tcq_syntax.specs.Laws.{granted_place}
-use Rattle.tcq_syntax.proofs.Sets.{Has-bit, bit-Has, Has-pow, Has-or_left, Has-or_right, Has-and, Has-inside, Inside-trans, Inside-and}
+use Rattle.tcq_syntax.proofs.Sets.{Has-bit, bit-Has, Has-or_left, Has-or_right, Has-inside, Inside-trans, Inside-and}
 use Rattle.tcq_syntax.proofs.Tables.{formula_at-node}
 use Rattle.antichains.specs.Sets.{is_inside, holds}
-use Rattle.antichains.specs.Chain.{IsChain, IsMinimal, values_at}
+use Rattle.antichains.specs.Chain.{IsMinimal, values_at}
 use Rattle.antichains.proofs.Chains.{from_inside, to_inside, is_inside-self, is_inside-through, holding, holds-from_member, one_member, le-from_inside}
-use Rattle.progression.specs.Step.{node_test, is_past, kept_formula, kept_place, AllGranted, OwnIn, AllOwn}
+use Rattle.progression.specs.Step.{node_test, is_past, kept_formula, AllGranted, OwnIn, AllOwn}
 use Rattle.progression.proofs.Exact.{or_cases, or_left, or_right, and_cases, and_both}
 use Rattle.progression.proofs.Values.{Has-values_at}
 use Rattle.progression.proofs.Parts.{EachFuture-kept}
@@ -42,13 +42,13 @@ Inside-or_left a b = Inside-from_bits a (bit_or a b) (λ i has. Has-or_left a b 
 pub Inside-or_right : (a b : ℕ) → Inside b (bit_or a b)
 Inside-or_right a b = Inside-from_bits b (bit_or a b) (λ i has. Has-or_right a b i has)
 
-Has-or_cases : (a b i : ℕ) → Has (bit_or a b) i → Has a i ⊎ Has b i
+pub Has-or_cases : (a b i : ℕ) → Has (bit_or a b) i → Has a i ⊎ Has b i
 Has-or_cases a b i has = elim (cases_lt 0 (bit_at a i)) [
   | inl one ↦ inl (bit-Has a i (omega (arith, bit_at-lt a i)))
   | inr none ↦ inr (bit-Has b i (omega (arith, bit_at_or a b i, Has-bit (bit_or a b) i has, bit_at-lt b i)))
 ]
 
-Has-pow_only : (k i : ℕ) → Has (2 ^ k) i → i ≡ k
+pub Has-pow_only : (k i : ℕ) → Has (2 ^ k) i → i ≡ k
 Has-pow_only k i has = elim (eqb_tells i k) [
   | inl same ↦ same.1
   | inr other ↦ let one : bit_at (2 ^ k) i ≡ 1 = Has-bit (2 ^ k) i has in let none : bit_at (2 ^ k) i ≡ 0 = bit_at-pow_other k i other.1 in absurd (omega (arith, one, none))

@@ -1,9 +1,9 @@
 -- One more node's table, behind those of the nodes before it.
-use Rattle.std.proofs.Common.{◌≡◌, ℕ, zero, suc, ◌+◌, ◌-◌, ◌<◌, ◌≤◌, ◌^◌, Bool, true, false, ◌&&◌, ◌||◌, cond, List, [], ◌∷◌, ◌++◌, length, take, get_or, refl, sym, ◌∙◌, ap, subst, arith, inl, inr, length-append}
-use Rattle.std.specs.Prelude.{◌↔◌, Some, slice_get, slice_index_or, map, if◌then◌else◌}
-use Rattle.std.specs.List.{All, count_by}
-use Rattle.std.proofs.lemmas.Bool.{cases_lt, false≢true}
-use Rattle.std.proofs.lemmas.List.{get_or_append_left, get_or_push, get_or_past, length_push, take_all}
+use Rattle.std.proofs.Common.{◌≡◌, ℕ, zero, suc, ◌+◌, ◌<◌, ◌≤◌, Bool, true, false, List, [], ◌∷◌, ◌++◌, length, take, refl, sym, ◌∙◌, ap, subst, arith, inl, inr}
+use Rattle.std.specs.Prelude.{◌↔◌, Some, slice_get, slice_index_or, if◌then◌else◌}
+use Rattle.std.specs.List.{count_by}
+use Rattle.std.proofs.lemmas.Bool.{cases_lt}
+use Rattle.std.proofs.lemmas.List.{get_or_append_left, get_or_push, length_push, take_all}
 use Rattle.std.proofs.lemmas.Option.{slice_get_within}
 use Rattle.std.proofs.lemmas.List.Elements.{All-nil, All-push, All-weaker}
 use Rattle.dl_syntax.specs.declared.names.IndId.{IndId}
@@ -11,8 +11,7 @@ use Rattle.dl_syntax.specs.declared.facts.Fact.{Fact}
 use Rattle.dl_syntax.specs.declared.ontology.Inclusion.{Inclusion}
 use Rattle.dl_syntax.specs.Rows.{Relation}
 use Rattle.tcq_syntax.specs.declared.nodes.Node.{Node}
-use Rattle.tcq_syntax.specs.declared.nodes.Node.TheVariants as node
-use Rattle.tcq_syntax.specs.Formula.{Formula, is_future, formula_at, number_at, HasChildrenBelow, IsTable}
+use Rattle.tcq_syntax.specs.Formula.{Formula, is_future, formula_at, number_at, IsTable}
 use Rattle.tcq_syntax.specs.Histories.{History, with_snapshot}
 use Rattle.tcq_syntax.specs.End.{future_set}
 use Rattle.tcq_syntax.specs.Laws.{granted_place}
@@ -24,8 +23,8 @@ use Rattle.answer_tables.specs.Tuples.{IsTuple}
 use Rattle.answer_tables.specs.Table.{Chains, at}
 use Rattle.answer_tables.specs.Combining.{LinksAreIn}
 use Rattle.answer_tables.specs.Substituting.{HaveShape, chains_at}
-use Rattle.progression.specs.Step.{Stands, node_test, is_past, kept_place, kept_formula, AllStand, AllGranted, KeptStands, OwnIn, AllOwn}
-use Rattle.progression.specs.Tables.{no_table, table_at, kept_table, Tabulates, AreTables, step_test, leaf_number, leaf_test, LeavesAre, KeptOwn, before_test, values_after}
+use Rattle.progression.specs.Step.{Stands, node_test, kept_place, AllStand, AllGranted, KeptStands, OwnIn, AllOwn}
+use Rattle.progression.specs.Tables.{no_table, table_at, kept_table, Tabulates, AreTables, step_test, leaf_number, leaf_test, LeavesAre, KeptOwn, values_after}
 use Rattle.progression.proofs.Pushes.{number_at-le, number_at-future, number_at-other, AllStand-push, AllGranted-other, AllGranted-future, granted_place-le}
 use Rattle.progression.proofs.Steps.{stands_next, asked}
 use Rattle.progression.proofs.OwnSets.{own_next}

@@ -1,6 +1,6 @@
 -- One more chain, and one more value.
-use Rattle.std.proofs.Common.{◌≡◌, ℕ, zero, suc, ◌+◌, ◌-◌, ◌<◌, ◌≤◌, Bool, true, false, cond, List, [], ◌∷◌, ◌++◌, length, take, drop, refl, sym, ◌∙◌, ap, subst, arith, inl, inr, eq-eqb}
-use Rattle.std.specs.Prelude.{◌⊎◌, Some, slice_get, slice_index_or}
+use Rattle.std.proofs.Common.{◌≡◌, ℕ, zero, suc, ◌+◌, ◌<◌, ◌≤◌, Bool, true, false, cond, List, [], ◌∷◌, ◌++◌, length, take, refl, sym, ◌∙◌, ap, subst, arith, inl, inr}
+use Rattle.std.specs.Prelude.{Some, slice_get}
 use Rattle.std.specs.List.{count_by}
 use Rattle.std.proofs.lemmas.Bool.{cases_lt, false≢true}
 use Rattle.std.proofs.lemmas.List.{get_or_append_left, get_or_push}
@@ -36,6 +36,13 @@ pub number_at-other : (nodes : List Node) (i : ℕ) (m : Node) → slice_get nod
 number_at-other nodes i m at other =
     count_by_more_no is_future nodes i m (slice_get_within nodes i m at) (ap is_future (get_or_from_slice_get nodes i m m at) ∙ other)
 
+pub number_at-next : (nodes : List Node) (i : ℕ) (m : Node) → slice_get nodes i ≡ Some m → number_at nodes (i + 1) ≡ number_at nodes i + cond (is_future m) 1 0
+number_at-next nodes i m at = go (is_future m) refl
+  where
+    go : (b : Bool) → is_future m ≡ b → number_at nodes (i + 1) ≡ number_at nodes i + cond b 1 0
+    go true future = number_at-future nodes i m at future
+    go false other = omega (arith, number_at-other nodes i m at other)
+
 pub number_at-before : (nodes : List Node) (i k : ℕ) (m : Node) → slice_get nodes i ≡ Some m → is_future m ≡ true → i < k → number_at nodes i < number_at nodes k
 number_at-before nodes i k m at future less = omega (arith, number_at-future nodes i m at future, number_at-le nodes (i + 1) k (omega arith))
 
@@ -54,7 +61,7 @@ granted_place-le place (node.Next f) below = omega arith
 granted_place-le place (node.WeakNext f) below = omega arith
 granted_place-le place _ below = omega arith
 
-one_node : (nodes : List Node) (place : ℕ) (one other : Node) → slice_get nodes place ≡ Some one → slice_get nodes place ≡ Some other → one ≡ other
+pub one_node : (nodes : List Node) (place : ℕ) (one other : Node) → slice_get nodes place ≡ Some one → slice_get nodes place ≡ Some other → one ≡ other
 one_node nodes place one other first second = sym (get_or_from_slice_get nodes place one one first) ∙ get_or_from_slice_get nodes place other one second
 
 module _ (X : Type 0) (none : X) (nodes : List Node) (table : IsTable nodes) (count : ℕ) (m : Node) (at : slice_get nodes count ≡ Some m) (old new : ℕ → X) (values : List X) (same : (c : ℕ) → c < count → new c ≡ old c) (granted : AllGranted none nodes count old values) where

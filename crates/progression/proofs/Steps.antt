@@ -1,21 +1,21 @@
 -- One more node: its chain stands for its formula.
-use Rattle.std.proofs.Common.{◌≡◌, ℕ, zero, suc, ◌+◌, ◌-◌, ◌*◌, ◌^◌, ◌<◌, ◌≤◌, Bool, true, false, List, [], ◌∷◌, ◌++◌, length, refl, sym, ◌∙◌, ap, subst, arith, inl, inr, length-append}
-use Rattle.std.specs.Prelude.{◌↔◌, ◌⊎◌, Some, slice_get, slice_index_or}
-use Rattle.std.proofs.lemmas.Bool.{cases_lt, false≢true}
+use Rattle.std.proofs.Common.{◌≡◌, ℕ, ◌+◌, ◌-◌, ◌^◌, ◌<◌, ◌≤◌, Bool, true, List, [], ◌∷◌, length, refl, sym, ◌∙◌, ap, subst, arith, length-append}
+use Rattle.std.specs.Prelude.{◌↔◌, Some, slice_get, slice_index_or}
+use Rattle.std.proofs.lemmas.Bool.{false≢true}
 use Rattle.std.proofs.Math.Pow.{pow_mono}
 use Rattle.dl_syntax.specs.declared.names.IndId.{IndId}
 use Rattle.dl_syntax.specs.declared.facts.Fact.{Fact}
 use Rattle.dl_syntax.specs.declared.ontology.Inclusion.{Inclusion}
 use Rattle.tcq_syntax.specs.declared.nodes.Node.{Node}
 use Rattle.tcq_syntax.specs.declared.nodes.Node.TheVariants as node
-use Rattle.tcq_syntax.specs.Formula.{Formula, False, is_future, formula_of, formula_at, number_at, HasChildrenBelow, IsTable}
+use Rattle.tcq_syntax.specs.Formula.{Formula, is_future, formula_of, formula_at, number_at, IsTable}
 use Rattle.tcq_syntax.specs.Histories.{History, with_snapshot}
-use Rattle.tcq_syntax.specs.End.{EndHolds, EachFuture, IsGrantedIn, Has}
+use Rattle.tcq_syntax.specs.End.{EndHolds, IsGrantedIn, Has}
 use Rattle.tcq_syntax.proofs.Progression.{progression}
 use Rattle.tcq_syntax.proofs.Tables.{formula_at-node}
 use Rattle.tcq_syntax.specs.Laws.{granted_place}
 use Rattle.antichains.specs.Sets.{holds}
-use Rattle.antichains.specs.Chain.{IsChain, IsMinimal, values_at}
+use Rattle.antichains.specs.Chain.{IsMinimal, values_at}
 use Rattle.progression.specs.Step.{Stands, node_test, is_past, kept_formula, kept_place, AllStand, AllGranted, LeafIs}
 use Rattle.progression.proofs.Exact.{node_exact}
 use Rattle.progression.proofs.Values.{Has-values_at, values_at-below}

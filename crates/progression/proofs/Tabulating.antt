@@ -1,18 +1,18 @@
 -- Tables made of one chain, and tables in a list that grew.
-use Rattle.std.proofs.Common.{◌≡◌, ℕ, ◌<◌, ◌≤◌, Bool, true, false, ◌||◌, ◌&&◌, not, List, [], ◌∷◌, drop, get_or, length, ◌+◌, eq-eqb, sym, ◌∙◌, ap, subst, refl, arith}
-use Rattle.std.specs.Prelude.{Result, Ok, Err, IfOk, nat_eq, if◌then◌else◌, map}
-use Rattle.std.specs.List.{All, Contains}
+use Rattle.std.proofs.Common.{◌≡◌, ℕ, ◌<◌, ◌≤◌, Bool, false, List, [], ◌∷◌, drop, get_or, length, ◌+◌, eq-eqb, sym, ◌∙◌, ap, subst, refl}
+use Rattle.std.specs.Prelude.{Result, Ok, Err, IfOk, if◌then◌else◌, map}
+use Rattle.std.specs.List.{Contains}
 use Rattle.std.proofs.lemmas.List.{drop_all, at_drop_more}
 use Rattle.dl_syntax.specs.declared.names.IndId.{IndId}
 use Rattle.antichains.specs.Sets.{holds}
-use Rattle.antichains.specs.Chain.{IsChain, IsMinimal, values_at}
+use Rattle.antichains.specs.Chain.{IsMinimal, values_at}
 use Rattle.formula_store.specs.Interned.{interned, Extends}
 use Rattle.formula_store.proofs.Lists.{Contains-interned, Contains-Extends}
 use Rattle.answer_tables.specs.Tuples.{IsTuple}
-use Rattle.answer_tables.specs.Table.{Chains, at, found, default_chain}
+use Rattle.answer_tables.specs.Table.{Chains, at}
 use Rattle.answer_tables.specs.Combining.{LinksAreIn}
 use Rattle.answer_tables.specs.Substituting.{chains_at}
-use Rattle.progression.specs.Tables.{Tabulates, IsOwn, kept_table, no_table}
+use Rattle.progression.specs.Tables.{Tabulates, kept_table, no_table}
 
 pub LinksAreIn-Extends : (table : Chains) (old new : List (List ℕ)) → Extends old new → LinksAreIn table old → LinksAreIn table new
 LinksAreIn-Extends table old new grown stored tuple is = Contains-Extends old new (at table tuple) grown (stored tuple is)

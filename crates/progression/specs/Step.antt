@@ -1,5 +1,5 @@
 -- One step of a query at one row: which sets of future nodes each node holds under, after one more snapshot.
-use Rattle.std.specs.Prelude.{◌≡◌, ℕ, ◌-◌, ◌<◌, ◌^◌, ◌↔◌, ◌&&◌, ◌||◌, not, Bool, true, false, List, [], length, Some, slice_get, slice_index_or}
+use Rattle.std.specs.Prelude.{bit_or, if◌then◌else◌, ◌≡◌, ℕ, ◌-◌, ◌<◌, ◌^◌, ◌↔◌, ◌&&◌, ◌||◌, not, Bool, true, false, List, length, Some, slice_get, slice_index_or}
 use Rattle.std.specs.List.{All}
 use Rattle.dl_syntax.specs.declared.names.IndId.{IndId}
 use Rattle.dl_syntax.specs.declared.ontology.Inclusion.{Inclusion}
@@ -108,3 +108,31 @@ HasNumberBelow limit (Until number f g) = number < limit
 HasNumberBelow limit (Eventually number f) = number < limit
 HasNumberBelow limit (Always number f) = number < limit
 HasNumberBelow limit _ = Unit {0}
+
+-- the node is a weak operator
+abbrev pub is_weak : Node → Bool
+is_weak (node.WeakNext f) = true
+is_weak (node.Always f) = true
+is_weak _ = false
+
+-- the set with the number of the node, if it is a weak operator
+abbrev pub with_weak : ℕ → ℕ → Node → ℕ
+with_weak set number n = (if is_weak n then bit_or set (2 ^ number) else set)
+
+-- the set of the future nodes of a node's part of the formula, from those of its children
+abbrev pub joined_set : ℕ → (ℕ → ℕ) → Node → ℕ
+joined_set number child node.True = 0
+joined_set number child node.False = 0
+joined_set number child (node.Leaf q) = 0
+joined_set number child (node.And f g) = bit_or (child f) (child g)
+joined_set number child (node.Or f g) = bit_or (child f) (child g)
+joined_set number child (node.Next f) = bit_or (2 ^ number) (child f)
+joined_set number child (node.WeakNext f) = bit_or (2 ^ number) (child f)
+joined_set number child (node.Prev f) = child f
+joined_set number child (node.WeakPrev f) = child f
+joined_set number child (node.Until f g) = bit_or (2 ^ number) (bit_or (child f) (child g))
+joined_set number child (node.Since f g) = bit_or (child f) (child g)
+joined_set number child (node.Eventually f) = bit_or (2 ^ number) (child f)
+joined_set number child (node.Always f) = bit_or (2 ^ number) (child f)
+joined_set number child (node.Once f) = child f
+joined_set number child (node.Historically f) = child f

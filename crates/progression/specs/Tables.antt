@@ -1,17 +1,21 @@
 -- One step of a query, with a table for each node in place of a chain.
-use Rattle.std.specs.Prelude.{◌≡◌, ℕ, ◌<◌, ◌↔◌, nat_eq, if◌then◌else◌, Bool, true, false, None, Some, List, [], ◌∷◌, ◌++◌, length, map, take, slice_get, slice_index_or}
-use Rattle.std.specs.List.{All, count_by, list_any}
+use Rattle.std.specs.Prelude.{◌≡◌, ◌⊎◌, ℕ, ◌<◌, ◌↔◌, nat_eq, if◌then◌else◌, Bool, true, false, None, Some, List, [], ◌∷◌, ◌++◌, length, map, take, slice_get, slice_index_or}
+use Rattle.std.specs.List.{All, AllPairs, Contains, count_by, list_any}
 use Rattle.dl_syntax.specs.declared.names.IndId.{IndId}
 use Rattle.dl_syntax.specs.declared.facts.Fact.{Fact}
 use Rattle.dl_syntax.specs.declared.ontology.Inclusion.{Inclusion}
 use Rattle.dl_syntax.specs.declared.queries.Cq.{Cq}
-use Rattle.dl_syntax.specs.Rows.{Relation}
+use Rattle.dl_syntax.specs.declared.queries.Term.{Term}
+use Rattle.dl_syntax.specs.declared.queries.Term.TheVariants.{Var, Ind}
+use Rattle.dl_syntax.specs.Rows.{Relation, IsRising}
 use Rattle.tcq_syntax.specs.declared.nodes.Node.{Node}
 use Rattle.tcq_syntax.specs.declared.nodes.Node.TheVariants as node
+use Rattle.tcq_syntax.specs.Tcq.{IsLeaf}
 use Rattle.tcq_syntax.specs.Formula.{is_future, formula_at}
 use Rattle.tcq_syntax.specs.Histories.{History, with_snapshot}
 use Rattle.tcq_syntax.specs.Time.{part_of}
 use Rattle.tcq_syntax.specs.End.{future_set}
+use Rattle.tcq_syntax.specs.Kept.{IsKept}
 use Rattle.tcq_syntax.specs.Laws.{granted_place}
 use Rattle.antichains.specs.Sets.{holds}
 use Rattle.antichains.specs.Chain.{IsChain, IsMinimal, values_at}
@@ -49,6 +53,11 @@ pub record IsOwn (table : Chains) (list : List (List ℕ)) : Type 0 where
 abbrev pub KeptShape : ℕ → ℕ → List (ℕ × Chains) → Type 0
 KeptShape slots arity kept = All (λ entry. (entry.1.slots ≡ slots) × (entry.1.arity ≡ arity)) kept
 
+-- the number of an answer variable
+abbrev pub variable_of : Term → ℕ
+variable_of (Var v) = v
+variable_of (Ind i) = 0
+
 -- whether the tuple's part on the answer variables of the leaf is one of the rows
 abbrev pub has_part : List (List IndId) → Cq → List IndId → Bool
 has_part rows q tuple = list_any (same_tuple (part_of tuple q.head)) rows
@@ -75,14 +84,20 @@ abbrev pub leaf_test : List Relation → ℕ → Node → List IndId → Bool
 leaf_test relations number (node.Leaf q) tuple = has_part (relation_at relations number).rows q tuple
 leaf_test relations number _ tuple = false
 
--- if the node is a leaf, there is a relation with its number, and it is over the leaf's variables
-abbrev pub HasLeaf : List Relation → ℕ → Node → Type 0
-HasLeaf relations number (node.Leaf q) = (number < length relations) × ((relation_at relations number).arity ≡ length q.head)
-HasLeaf relations number _ = Unit {0}
+-- the rows have the length of the leaf's answer variables, and rise
+pub record IsOverLeaf (q : Cq) (relation : Relation) : Type 0 where
+  pub arity : relation.arity ≡ length q.head
+  pub long : All (λ row. length row ≡ relation.arity) relation.rows
+  pub rising : IsRising relation.rows
+
+-- if the node is a leaf, it is one over the answer variables, and there is a relation with its number over it
+abbrev pub HasLeaf : ℕ → List Relation → ℕ → Node → Type 0
+HasLeaf vars relations number (node.Leaf q) = (number < length relations) × IsOverLeaf q (relation_at relations number) × IsLeaf vars q
+HasLeaf vars relations number _ = Unit {0}
 
 -- there is a relation for each leaf
-abbrev pub HaveLeaves : List Node → List Relation → Type 0
-HaveLeaves nodes relations = (place : ℕ) (n : Node) → slice_get nodes place ≡ Some n → HasLeaf relations (leaf_number nodes place) n
+abbrev pub HaveLeaves : ℕ → List Node → List Relation → Type 0
+HaveLeaves vars nodes relations = (place : ℕ) (n : Node) → slice_get nodes place ≡ Some n → HasLeaf vars relations (leaf_number nodes place) n
 
 -- what the kept table that a node asks says at a tuple, where each future node has this value
 abbrev pub before_test : List (ℕ × Chains) → ℕ → List Chains → Node → List IndId → ℕ → Bool
@@ -113,7 +128,17 @@ pub record AreTables (nodes : List Node) (slots arity : ℕ) (first : Bool) (kep
   pub stored : All (λ table. LinksAreIn table list) tables
   -- where the kept tables stand for a history, these stand for it with the snapshot
   pub stand : (inclusions : List Inclusion) (history : History) (snapshot : List Fact) (row : List IndId) → IsTuple slots arity row → (first ≡ true) ↔ (length history.snapshots ≡ 0) →
-    KeptStands inclusions history row nodes (λ place. at (kept_table kept place) row) → LeavesAre inclusions (with_snapshot snapshot history) row (length history.snapshots) nodes leaves →
-    AllStand inclusions (with_snapshot snapshot history) row nodes count (λ place. at (table_at tables place) row)
+      KeptStands inclusions history row nodes (λ place. at (kept_table kept place) row) → LeavesAre inclusions (with_snapshot snapshot history) row (length history.snapshots) nodes leaves →
+      AllStand inclusions (with_snapshot snapshot history) row nodes count (λ place. at (table_at tables place) row)
   -- and their sets are their own, as the kept ones are
   pub own : (row : List IndId) → IsTuple slots arity row → KeptOwn nodes (λ place. at (kept_table kept place) row) → AllOwn nodes count (λ place. at (table_at tables place) row)
+
+-- the tables of the kept nodes among the first so many, with their places, in rising order
+pub record AreKeptOf (nodes : List Node) (count : ℕ) (tables : List Chains) (entries : List (ℕ × Chains)) : Type 0 where
+  pub rising : AllPairs (λ entry later. entry.0 < later.0) entries
+  pub each : All (λ entry. (entry.0 < count) × IsKept nodes entry.0 × (entry.1 ≡ table_at tables entry.0)) entries
+  pub complete : (place : ℕ) → place < count → IsKept nodes place → Contains (map (λ entry. entry.0) entries) place
+
+-- a kept node's table goes last, and another's nowhere
+abbrev pub WithNode : List Node → ℕ → Chains → List (ℕ × Chains) → List (ℕ × Chains) → Type 0
+WithNode nodes place table old new = (IsKept nodes place × (new ≡ old ++ (place, table) ∷ [])) ⊎ ((¬ IsKept nodes place) × (new ≡ old))

@@ -1,11 +1,11 @@
-ghost use Rattle.std.specs.Prelude.{◌≡◌, List, ℕ, Bool};
+ghost use Rattle.std.specs.Prelude.{List, ℕ, Bool};
 ghost use Rattle.dl_syntax.specs.declared.ontology.Inclusion.{Inclusion};
+ghost use Rattle.tcq_syntax.specs.Tcq.{Tcq};
 ghost use Rattle.tcq_syntax.specs.Histories.{empty_history};
 ghost use Rattle.progression.specs.Kept.{Fits, StandsFor};
 
 use answer_tables::Table;
 use std::alloc::Global;
-use tcq_syntax::Query;
 
 /// What is kept of a query from one snapshot to the next.
 #[derive(Drop)]
@@ -16,12 +16,11 @@ pub struct Kept {
     pub tables: Vec<(u16, Table)>,
 }
 
-/// What is kept before the first snapshot.
-pub fn start(alloc: Global, query: &Query) -> Kept
-    ensures fits { (slots : ℕ) → Fits query.now slots result }
-    ensures stands { (inclusions : List Inclusion) (slots : ℕ) (closed : Bool) → StandsFor inclusions slots (empty_history closed) query.now result }
+/// What is kept of any query before the first snapshot.
+pub fn start(alloc: Global) -> Kept
+    ensures fits { (query : Tcq) (slots : ℕ) → Fits query slots result }
+    ensures stands { (inclusions : List Inclusion) (slots : ℕ) (query : Tcq) (closed : Bool) → StandsFor inclusions slots (empty_history closed) query result }
 {
-    let _query = query;
     Kept {
         count: 0,
         tables: Vec::new(alloc),

@@ -1,6 +1,6 @@
 //! What a node asks besides its children, as a table.
 
-ghost use Rattle.std.specs.Prelude.{◌≡◌, ◌<◌, ◌≤◌, ◌^◌, ◌&&◌, ◌||◌, not, true, false, IfOk, length, ℕ};
+ghost use Rattle.std.specs.Prelude.{◌≡◌, ◌<◌, ◌≤◌, ◌^◌, ◌&&◌, ◌||◌, not, true, false, IfOk, length, map, ℕ};
 ghost use Rattle.std.specs.List.{All};
 ghost use Rattle.antichains.specs.Sets.{is_inside, holds};
 ghost use Rattle.antichains.specs.Chain.{values_at};
@@ -8,13 +8,14 @@ ghost use Rattle.formula_store.specs.Interned.{Extends};
 ghost use Rattle.answer_tables.specs.Table.{at};
 ghost use Rattle.answer_tables.specs.Substituting.{HaveShape, chains_at};
 ghost use Rattle.tcq_syntax.specs.Formula.{is_future};
+ghost use Rattle.tcq_syntax.specs.Tcq.{IsLeaf};
 ghost use Rattle.progression.specs.Step.{own_test};
-ghost use Rattle.progression.specs.Tables.{Tabulates, kept_table, before_test, leaf_test, has_part, HasLeaf, KeptShape};
+ghost use Rattle.progression.specs.Tables.{Tabulates, kept_table, before_test, leaf_test, has_part, variable_of, HasLeaf, IsOverLeaf, KeptShape};
 
 use crate::Memory;
-use answer_tables::{Table, fill, substitute_all};
+use answer_tables::{Table, fill, from_tuples, substitute_all};
 use antichains::Chain;
-use dl_syntax::{Cq, Tuples};
+use dl_syntax::{Cq, Term, Tuples};
 use formula_store::Store;
 use std::alloc::Global;
 use tcq_syntax::Node;
@@ -126,6 +127,30 @@ fn weak(
     }
 }
 
+/// The number of an answer variable.
+fn variable(term: Term) -> u8
+    requires { variable_of term < 256 }
+    ensures { result ≡ variable_of term }
+{
+    match term {
+        Term::Var(v) => v as u8,
+        Term::Ind(_) => 0,
+    }
+}
+
+/// The numbers of a leaf's answer variables.
+fn variables(alloc: Global, head: &[Term]) -> Result<Vec<u8>, Memory>
+    requires { All (λ x. variable_of x < 256) head.now }
+    ensures { IfOk result (λ places. places.items ≡ map variable_of head.now) }
+{
+    let mut places = Vec::with_capacity(alloc, head.len())?;
+    for term in head {
+        let place = variable(*term);
+        places.push(place)?;
+    }
+    Ok(places)
+}
+
 /// The table of the rows that answer a leaf.
 fn answered(
     alloc: Global,
@@ -136,13 +161,13 @@ fn answered(
     store: &mut Store,
 ) -> Result<Table, Memory>
     requires few { slots ^ arity ≤ 2 ^ 60 }
-    requires long { rows.now.arity ≡ length q.now.head }
+    requires leaf { IsLeaf arity q.now }
+    requires over { IsOverLeaf q.now rows.now }
     ensures table { IfOk result (Tabulates slots arity (λ tuple v. has_part rows.now.rows q.now tuple) store.new) }
     ensures grown { Extends store.old store.new }
 {
-    let _rows = rows;
-    let _head = q;
-    filled(alloc, slots, arity, false, store)
+    let places = variables(alloc, q.head.as_slice())?;
+    from_tuples(alloc, slots, arity, places.as_slice(), rows, store)
 }
 
 /// What a node at a place asks besides its children, as a table. `values[b]` is the value of the
@@ -164,7 +189,7 @@ pub fn own(
     requires number { is_future node.now ≡ true → length values.now < 8 }
     requires kept { KeptShape slots arity kept.now }
     requires values { HaveShape slots arity values.now }
-    requires leaf { HasLeaf leaves.now leaf node.now }
+    requires leaf { HasLeaf arity leaves.now leaf node.now }
     ensures table { IfOk result (Tabulates slots arity (λ tuple v. own_test first (length values.now) (before_test kept.now place values.now node.now tuple) (leaf_test leaves.now leaf node.now tuple) node.now v) store.new) }
     ensures grown { Extends store.old store.new }
 {

@@ -51,7 +51,7 @@ fn node_table(
     requires children { HasChildrenBelow (length tables.now) node.now }
     requires number { is_future node.now ≡ true → length values.now < 8 }
     requires kept { KeptShape slots arity kept.now }
-    requires leaf { HasLeaf leaves.now (leaf_number nodes.now (length tables.now)) node.now }
+    requires leaf { HasLeaf arity leaves.now (leaf_number nodes.now (length tables.now)) node.now }
     requires tables { HaveShape slots arity tables.now }
     requires values { HaveShape slots arity values.now }
     ensures table { IfOk result (Tabulates slots arity (step_test first kept.now leaves.now (leaf_number nodes.now (length tables.now)) (length tables.now) tables.now values.now node.now) store.new) }
@@ -120,7 +120,7 @@ pub fn node_tables(
     requires small { length nodes.now ≤ 64 }
     requires futures { count_by is_future nodes.now ≤ 8 }
     requires kept { KeptShape slots arity kept.now }
-    requires leaves { HaveLeaves nodes.now leaves.now }
+    requires leaves { HaveLeaves arity nodes.now leaves.now }
     ensures tables { IfOk result (λ tables. AreTables nodes.now slots arity first kept.now leaves.now store.new (length nodes.now) tables.items) }
     ensures grown { Extends store.old store.new }
 {

@@ -26,7 +26,7 @@ use Rattle.saturate.proofs.DerivedRuns.{derived_is_reached}
 use Rattle.saturate.proofs.Arrows.{along_walk, one_more, here, along_arrow, arrow_from, forth, back, role_cases, twice, pair_arrow, raised, turned_above}
 
 -- the fact of a pair, forwards or backwards
-abbrev directed : Role → Bool → Element → Element → Fact
+abbrev pub directed : Role → Bool → Element → Element → Fact
 directed r inverse a b = cond inverse (fact.Role r.id b a) (fact.Role r.id a b)
 
 reversed_at : (r : Role) (v : Bool) (a b : Element) → directed (inverse_of r) (not v) b a ≡ directed r v a b
@@ -36,10 +36,10 @@ reversed_at r true a b = refl
 reversed : (r : Role) (a b : Element) → role_fact (inverse_of r) b a ≡ role_fact r a b
 reversed r a b = reversed_at r r.inverse a b
 
-is_forward : (r : Role) → r.inverse ≡ false → forward r.id.0 ≡ r
+pub is_forward : (r : Role) → r.inverse ≡ false → forward r.id.0 ≡ r
 is_forward r is = ap (λ (v : Bool). let it : Role = record { id = r.id; inverse = v } in it) (sym is)
 
-is_backward : (r : Role) → r.inverse ≡ true → backward r.id.0 ≡ r
+pub is_backward : (r : Role) → r.inverse ≡ true → backward r.id.0 ≡ r
 is_backward r is = ap (λ (v : Bool). let it : Role = record { id = r.id; inverse = v } in it) (sym is)
 
 module _ (incs : List Inclusion) (facts : List Fact) where

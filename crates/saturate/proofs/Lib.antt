@@ -5,3 +5,4 @@ pub mod Arrows
 pub mod Implications
 pub mod ListedAbove
 pub mod FactImplied
+pub mod Kept

@@ -2,3 +2,4 @@ pub mod Derived
 pub mod Above
 pub mod Lists
 pub mod Implied
+pub mod Laws

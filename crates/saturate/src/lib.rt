@@ -11,3 +11,6 @@ mod saturator;
 mod tables;
 
 pub use saturator::{Saturator, saturate};
+
+#[cfg(test)]
+mod tests;

@@ -4,4 +4,5 @@ pub mod Witnesses
 pub mod RowOrder
 pub mod MergedRows
 pub mod GatheredRows
-pub mod OneQuery
+pub mod Parts
+pub mod AskedQueries

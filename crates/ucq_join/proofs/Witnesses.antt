@@ -184,18 +184,18 @@ all_at P xs i d lt all = All-from_recursion P xs all i d lt
 match_permuted : (facts : List Fact) (body atoms : List Atom) (t : Assignment) → IsPermutation body atoms → Match body facts t → Match atoms facts t
 match_permuted facts body atoms t p m = All-permutation (λ a. Contains facts (atom_at t a)) body atoms p m
 
-covered_member : (bs : List Binding) (atoms : List Atom) (x : Term) (a : Atom) → Contains atoms a → HasTerm a x → IsCovered bs atoms x
+pub covered_member : (bs : List Binding) (atoms : List Atom) (x : Term) (a : Atom) → Contains atoms a → HasTerm a x → IsCovered bs atoms x
 covered_member bs [] x a m h = absurd (Contains-none a m)
 covered_member bs (b ∷ atoms) x a m h = elim (Contains-cons_cases b atoms a m) [
   | inl e ↦ inl (subst (λ c. HasTerm c x) (sym e) h)
   | inr k ↦ inr (covered_member bs atoms x a k h)
 ]
 
-covered_bound : (bs : List Binding) (atoms : List Atom) (x : Term) → IsAssigned bs x → IsCovered bs atoms x
+pub covered_bound : (bs : List Binding) (atoms : List Atom) (x : Term) → IsAssigned bs x → IsCovered bs atoms x
 covered_bound bs [] x h = h
 covered_bound bs (b ∷ atoms) x h = inr (covered_bound bs atoms x h)
 
-covered_cases : (bs : List Binding) (atoms : List Atom) (x : Term) → IsCovered bs atoms x → IsAssigned bs x ⊎ ((a : Atom) × Contains atoms a × HasTerm a x)
+pub covered_cases : (bs : List Binding) (atoms : List Atom) (x : Term) → IsCovered bs atoms x → IsAssigned bs x ⊎ ((a : Atom) × Contains atoms a × HasTerm a x)
 covered_cases bs [] x h = inl h
 covered_cases bs (b ∷ atoms) x (inl h) = inr (b, Contains-first b atoms, h)
 covered_cases bs (b ∷ atoms) x (inr h) = elim (covered_cases bs atoms x h) [ inl k ↦ inl k | inr k ↦ inr (k.0, Contains-later b atoms k.0 k.1, k.2) ]

@@ -2,3 +2,5 @@ pub mod Bindings
 pub mod Answers
 pub mod Gathered
 pub mod Partial
+pub mod Split
+pub mod Asked

@@ -14,6 +14,7 @@ ghost use Rattle.ucq_join.specs.Partial.{HeadIsCovered, IsAnswerFrom, IsAnswerAt
 
 use crate::bindings::{Binding, bind_atom, value_of};
 use crate::gathered::{Rows, write_row};
+use crate::split::{has_matches, take_joined};
 use dl_syntax::{Atom, Cq, Element, Fact, IndId, Memory, Term, Tuples};
 use fact_index::{Index, with_first, with_last};
 use std::alloc::Global;
@@ -49,9 +50,9 @@ fn candidates<'a>(index: &'a Index, atom: Atom, bindings: &[Binding]) -> &'a [Fa
     }
 }
 
-// Whether some match extends the bindings.
+/// Whether some match extends the bindings.
 #[cycle(witness)]
-fn has_match(index: &Index, body: &[Atom], bindings: &mut Vec<Binding>) -> Result<bool, Memory>
+pub fn has_match(index: &Index, body: &[Atom], bindings: &mut Vec<Binding>) -> Result<bool, Memory>
     ensures bindings { OnOk result (bindings.new.items ≡ bindings.old.items) }
     ensures found { IfOk result (λ found. IsTrue found ↔ HasMatch index.now body.now bindings.old.items) }
 {
@@ -226,8 +227,8 @@ fn best_place(index: &Index, before: &[Atom], atoms: &[Atom]) -> usize
     best
 }
 
-// The atoms of a body in the order in which they are tried.
-fn ordered(alloc: Global, index: &Index, body: &[Atom]) -> Result<Vec<Atom>, Memory>
+/// The atoms of a body in the order in which they are tried.
+pub fn ordered(alloc: Global, index: &Index, body: &[Atom]) -> Result<Vec<Atom>, Memory>
     ensures { IfOk result (λ atoms. IsPermutation body.now atoms.items) }
 {
     let mut rest = Vec::from_slice(alloc, body)?;
@@ -259,7 +260,32 @@ fn lacks_facts(index: &Index, body: &[Atom]) -> bool
     false
 }
 
-// Adds the answers of a query.
+// Adds the answers of a body whose atoms are tried in an order of their own.
+fn add_ordered(
+    alloc: Global,
+    index: &Index,
+    head: &[Term],
+    body: &[Atom],
+    rows: &mut Rows,
+) -> Result<(), Memory>
+    requires covered { HeadIsCovered [] body.now head.now }
+    requires wide { length head.now ≡ rows.old.arity }
+    ensures { OnOk result (AddsRows rows.old rows.new (IsAnswerFrom index.now head.now body.now [])) }
+{
+    let body = ordered(alloc, index, body)?;
+    let mut bindings = Vec::new(alloc);
+    let mut places = Vec::new(alloc);
+    extend(
+        index,
+        head,
+        body.as_slice(),
+        &mut bindings,
+        &mut places,
+        rows,
+    )
+}
+
+// Adds the answers of a query. What shares no variable with the head is matched once, ahead of the rest.
 fn add_answers(alloc: Global, index: &Index, query: &Cq, rows: &mut Rows) -> Result<(), Memory>
     requires query { IsQuery query.now }
     requires wide { length query.now.head ≡ rows.old.arity }
@@ -268,17 +294,12 @@ fn add_answers(alloc: Global, index: &Index, query: &Cq, rows: &mut Rows) -> Res
     if lacks_facts(index, query.body.as_slice()) {
         return Ok(());
     }
-    let body = ordered(alloc, index, query.body.as_slice())?;
-    let mut bindings = Vec::new(alloc);
-    let mut places = Vec::new(alloc);
-    extend(
-        index,
-        query.head.as_slice(),
-        body.as_slice(),
-        &mut bindings,
-        &mut places,
-        rows,
-    )
+    let mut rest = Vec::from_slice(alloc, query.body.as_slice())?;
+    let joined = take_joined(alloc, query.head.as_slice(), &mut rest)?;
+    if !has_matches(alloc, index, rest)? {
+        return Ok(());
+    }
+    add_ordered(alloc, index, query.head.as_slice(), joined.as_slice(), rows)
 }
 
 /// The answers of a union of conjunctive queries, whose heads have as many terms as the arity: exactly the rows to which some match of a member's body in the facts sends its head, in rising order.

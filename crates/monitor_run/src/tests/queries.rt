@@ -1,21 +1,13 @@
 //! Query files that are refused.
-use super::{ONTOLOGY, words};
+use super::{ONTOLOGY, files_of, words};
 use crate::{Status, run};
-use edge_io::{MemFiles, MemSink, MemSource};
+use edge_io::{MemSink, MemSource};
 use std::alloc::Global;
 use std::test::Fail;
 
-/// The files O and Q, of which Q has this text.
-fn files_with(alloc: Global, queries: &[u8]) -> Result<MemFiles, Fail> {
-    let mut files = Vec::new(alloc);
-    files.push((String::from_str(alloc, "O")?, ONTOLOGY.to_vec(alloc)?))?;
-    files.push((String::from_str(alloc, "Q")?, queries.to_vec(alloc)?))?;
-    Ok(MemFiles::new(files, Vec::new(alloc)))
-}
-
 /// The status of a run over queries with this text, and what it says on `err`.
 fn opened(alloc: Global, queries: &[u8]) -> Result<(Status, Vec<u8>), Fail> {
-    let mut files = files_with(alloc, queries)?;
+    let mut files = files_of(alloc, ONTOLOGY, queries)?;
     let mut input = MemSource::new(Vec::new(alloc), 1, Vec::new(alloc));
     let mut out = MemSink::new(alloc, 256, 256, Vec::new(alloc))?;
     let mut err = MemSink::new(alloc, 256, 256, Vec::new(alloc))?;

@@ -1,4 +1,4 @@
-use Rattle.std.proofs.Common.{ℕ, ◌+◌, ◌-◌, length}
+use Rattle.std.proofs.Common.{◌+◌, ◌-◌, length}
 use Rattle.answer_tables.proofs.Aligning.{Aligning}
 use Rattle.answer_tables.proofs.align.align.Given as goal
 

@@ -1,7 +1,6 @@
-use Rattle.std.proofs.Common.{◌≡◌, ◌+◌, ◌^◌, ◌<◌, ◌≤◌, ◌++◌, ◌∷◌, [], ℕ, List, length, take, true, false, sym, ◌∙◌, ap, subst, arith}
+use Rattle.std.proofs.Common.{◌≡◌, ◌+◌, ◌^◌, ◌≤◌, ◌++◌, ◌∷◌, [], ℕ, List, length, take, sym, ◌∙◌, subst, arith}
 use Rattle.std.proofs.lemmas.Bool.{true≢false}
 use Rattle.dl_syntax.specs.declared.names.IndId.{IndId}
-use Rattle.answer_tables.specs.declared.run.Run.{Run}
 use Rattle.answer_tables.specs.Runs.{Extended}
 use Rattle.answer_tables.specs.Tuples.{IsTuple, number}
 use Rattle.answer_tables.specs.Marks.{Cleared, Marks}

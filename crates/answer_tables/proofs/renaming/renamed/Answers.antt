@@ -1,5 +1,5 @@
 use Rattle.std.proofs.Common.{arith}
-use Rattle.answer_tables.proofs.Renamings.{Renaming-step, Renaming-start, AreRenamed-end}
+use Rattle.answer_tables.proofs.Renamings.{Renaming-step}
 use Rattle.answer_tables.proofs.renaming.renamed.Goals as goal
 
 pub loop-run-preserved : goal.loop-run-preserved

@@ -1,5 +1,4 @@
 use Rattle.std.proofs.Common.{◌≡◌, rules, sym, subst, length}
-use Rattle.std.specs.Prelude.{slice_set}
 use Rattle.answer_tables.specs.Runs.{Extended}
 use Rattle.answer_tables.proofs.Runs.{Extended-pushed, Extended-written}
 use Rattle.answer_tables.proofs.run.extend.Goals as goal

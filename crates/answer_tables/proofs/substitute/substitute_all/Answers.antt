@@ -1,6 +1,5 @@
-use Rattle.std.proofs.Common.{◌≡◌, ◌^◌, ◌≤◌, ℕ, List, length, sym, ◌∙◌, ap, subst}
+use Rattle.std.proofs.Common.{◌^◌, ◌≤◌, ℕ, List, length, sym, ◌∙◌, ap, subst}
 use Rattle.std.proofs.lemmas.Result.{IfOk-weaker}
-use Rattle.answer_tables.specs.declared.run.Run.{Run}
 use Rattle.answer_tables.specs.declared.align.Joint.{Joint}
 use Rattle.answer_tables.specs.Table.{Chains, AreUsed, view_of}
 use Rattle.answer_tables.specs.Combining.{LinksAreIn}

@@ -1,10 +1,9 @@
-use Rattle.std.proofs.Common.{ℕ, List, sym, ◌∙◌, ap, subst}
+use Rattle.std.proofs.Common.{ℕ, List, sym, ◌∙◌, subst}
 use Rattle.std.specs.List.{Contains}
 use Rattle.std.proofs.lemmas.Result.{IfOk-weaker}
 use Rattle.antichains.specs.Sets.{holds}
 use Rattle.antichains.specs.Chain.{IsMinimal, values_at}
 use Rattle.formula_store.proofs.Lists.{Contains-interned}
-use Rattle.answer_tables.specs.Table.{at}
 use Rattle.answer_tables.specs.Substituting.{chains_at}
 use Rattle.answer_tables.proofs.Substitutions.{shape_tuples}
 use Rattle.answer_tables.proofs.substitute.substituted_link.Goals as goal

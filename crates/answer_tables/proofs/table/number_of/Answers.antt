@@ -1,4 +1,4 @@
-use Rattle.std.proofs.Common.{◌≡◌, ◌+◌, ◌*◌, ◌<◌, ◌≤◌, ◌^◌, ℕ, arith, sym, ap, ◌∙◌, take}
+use Rattle.std.proofs.Common.{◌+◌, ◌*◌, ◌<◌, ℕ, arith, sym, ap, ◌∙◌, take}
 use Rattle.std.specs.Prelude.{slice_index_or}
 use Rattle.std.proofs.lemmas.List.{take_more}
 use Rattle.answer_tables.specs.Tuples.{number}

@@ -1,7 +1,3 @@
-use Rattle.std.proofs.Common.{List, ℕ, sym, ◌∙◌, subst}
-use Rattle.std.specs.List.{Contains}
-use Rattle.std.proofs.lemmas.Result.{IfOk-weaker}
-use Rattle.formula_store.proofs.Lists.{Contains-interned}
 use Rattle.answer_tables.proofs.Two.{interned_there}
 use Rattle.answer_tables.proofs.true_at.fixed_link.Goals as goal
 

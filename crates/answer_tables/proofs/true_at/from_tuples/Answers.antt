@@ -1,13 +1,11 @@
-use Rattle.std.proofs.Common.{◌≡◌, Bool, true, cond, not, ℕ, List, [], ◌∷◌, length, sym, ◌∙◌, ap, subst}
-use Rattle.std.specs.Prelude.{slice_index_or, All}
-use Rattle.std.specs.List.{Contains}
+use Rattle.std.proofs.Common.{◌≡◌, Bool, cond, not, ℕ, List, [], ◌∷◌, length, sym, ◌∙◌, ap, subst}
+use Rattle.std.specs.Prelude.{All}
 use Rattle.std.proofs.lemmas.Result.{IfOk-weaker}
-use Rattle.dl_syntax.specs.declared.names.IndId.{IndId}
 use Rattle.formula_store.proofs.Lists.{Contains-Extends}
 use Rattle.answer_tables.specs.declared.run.Run.{Run}
-use Rattle.answer_tables.specs.Runs.{end_from, NamedBelow, link_at}
-use Rattle.answer_tables.specs.Tuples.{IsTuple, number}
-use Rattle.answer_tables.specs.Table.{Chains, at}
+use Rattle.answer_tables.specs.Runs.{link_at}
+use Rattle.answer_tables.specs.Tuples.{number}
+use Rattle.answer_tables.specs.Table.{Chains}
 use Rattle.answer_tables.specs.Combining.{LinksAreIn}
 use Rattle.answer_tables.proofs.Two.{empty_other, picked_in, pick, three_facts}
 use Rattle.answer_tables.proofs.true_at.from_tuples.Goals as goal

@@ -1,9 +1,8 @@
-use Rattle.std.proofs.Common.{◌≡◌, ◌^◌, ◌<◌, ℕ, List, [], ◌∷◌, length, sym, ◌∙◌, ap, subst, arith}
+use Rattle.std.proofs.Common.{ℕ, List, [], ◌∷◌, sym, ◌∙◌, ap}
 use Rattle.std.proofs.lemmas.Result.{IfOk-weaker}
-use Rattle.dl_syntax.specs.declared.names.IndId.{IndId}
 use Rattle.answer_tables.specs.Runs.{link_at}
-use Rattle.answer_tables.specs.Tuples.{IsTuple, number}
-use Rattle.answer_tables.specs.Table.{Chains, at, AreUsed, view_of}
+use Rattle.answer_tables.specs.Tuples.{number}
+use Rattle.answer_tables.specs.Table.{Chains, at}
 use Rattle.answer_tables.proofs.Views.{at_view}
 use Rattle.answer_tables.proofs.Two.{all_first, all_second, both_used, pick}
 use Rattle.answer_tables.proofs.true_at.from_two.Goals as goal

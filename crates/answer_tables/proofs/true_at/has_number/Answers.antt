@@ -1,4 +1,4 @@
-use Rattle.std.proofs.Common.{◌≡◌, ◌<◌, ◌≤◌, ℕ, length, sym, ◌∙◌, arith}
+use Rattle.std.proofs.Common.{◌∙◌, arith}
 use Rattle.answer_tables.proofs.Runs.{run_number, number_run}
 use Rattle.answer_tables.proofs.true_at.has_number.Goals as goal
 

@@ -2,7 +2,7 @@ use Rattle.std.proofs.Common.{◌≡◌, ℕ, List, map, ap, ◌∙◌, sym, ari
 use Rattle.std.specs.String.{string_bytes}
 use Rattle.std.proofs.lemmas.List.{length-map}
 use Rattle.monitor_run.specs.Running.{Outside}
-use Rattle.monitor_run.proofs.RunLaws.{words_end, three_words, not_three}
+use Rattle.monitor_run.proofs.RunLaws.{words_end, three_words, not_three, not_three_either}
 use Rattle.monitor_run.proofs.command.perform.Goals as goal
 
 abbrev bytes : String Global → List ℕ
@@ -27,5 +27,6 @@ returns-in-len3-clause-ends g c =
 pub returns-in_default-clause-ends : goal.returns-in_default-clause-ends
 returns-in_default-clause-ends g c = (
   λ o q are. not_three (map bytes c.args.words.now) (λ long. omega (arith, c.in_default.len_below, length-map c.args.words.now bytes, long)) o q are,
+  λ o q are. not_three_either (map bytes c.args.words.now) (λ long. omega (arith, c.in_default.len_below, length-map c.args.words.now bytes, long)) o q are,
   record { left = refl; got = refl },
 )

@@ -1,5 +1,3 @@
-use Rattle.std.proofs.Common.{◌^◌}
-use Rattle.antichains.specs.Sets.{is_inside}
 use Rattle.progression.proofs.Tabulating.{Tabulates-filled}
 use Rattle.progression.proofs.own.filled.Goals as goal
 

@@ -1,6 +1,5 @@
 use Rattle.std.proofs.Common.{◌≡◌, ◌<◌, ℕ, List, [], length, get_or, vec_len, rules, sym, ◌∙◌, ap, subst, arith}
 use Rattle.std.proofs.lemmas.List.{get_or_default}
-use Rattle.dl_syntax.specs.declared.names.IndId.{IndId}
 use Rattle.answer_tables.specs.declared.run.Run.{Run}
 use Rattle.answer_tables.specs.Runs.{link_at, end_from}
 use Rattle.answer_tables.specs.Tuples.{IsTuple, number}

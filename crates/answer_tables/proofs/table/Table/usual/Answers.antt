@@ -1,8 +1,6 @@
-use Rattle.std.proofs.Common.{◌≡◌, ◌<◌, ◌^◌, ℕ, length, vec_len, rules, sym, ap, subst, arith, inl, inr}
-use Rattle.std.specs.Prelude.{◌⊎◌}
+use Rattle.std.proofs.Common.{◌≡◌, ◌<◌, ◌^◌, length, vec_len, rules, sym, subst, arith, inl, inr}
 use Rattle.std.proofs.lemmas.Bool.{cases_lt}
-use Rattle.answer_tables.specs.Tuples.{IsTuple, number}
-use Rattle.answer_tables.specs.Table.{Chains, HasChain, at}
+use Rattle.answer_tables.specs.Table.{Chains}
 use Rattle.answer_tables.proofs.Numbers.{tuple_at}
 use Rattle.answer_tables.proofs.Ranks.{first_run}
 use Rattle.answer_tables.proofs.table.Table.usual.Goals as goal

@@ -1,0 +1,43 @@
+//! The links of a table's default and exceptions.
+
+ghost use Rattle.std.specs.Prelude.{◌≡◌, ◌++◌, ◌↔◌, ℕ, List, IfOk, OnOk, replicate};
+ghost use Rattle.std.specs.List.{Contains};
+ghost use Rattle.answer_tables.specs.Table.{HasChain, links_of};
+
+use crate::Memory;
+use crate::table::Table;
+use formula_store::Link;
+use std::alloc::Global;
+
+/// Puts so many links of a chain last.
+fn push_copies(links: &mut Vec<Link>, link: &Link, count: u64) -> Result<(), Memory>
+    ensures { OnOk result (links.new.items ≡ links.old.items ++ replicate count link.now) }
+{
+    for _ in 0..count {
+        links.push(link.copy()?)?;
+    }
+    Ok(())
+}
+
+impl Table {
+    /// A link of the default's chain, if there is a default, then one of each exception's chain, in rising order of their tuples. Their chains are exactly those of the tuples.
+    pub fn links(&self, alloc: Global) -> Result<Vec<Link>, Memory>
+        ensures links { IfOk result (λ links. links.items ≡ links_of self.now) }
+        ensures exact { IfOk result (λ links. (chain : List ℕ) → Contains links.items chain ↔ HasChain self.now chain) }
+    {
+        let mut links = Vec::new(alloc);
+        if self.runs.is_empty() {
+            return Ok(links);
+        }
+        let usual = self.runs[0].link;
+        links.push(self.links[usual].copy()?)?;
+        let mut start = 0;
+        for run in &self.runs {
+            if run.link != usual {
+                push_copies(&mut links, &self.links[run.link], run.end - start)?;
+            }
+            start = run.end;
+        }
+        Ok(links)
+    }
+}

@@ -1,0 +1,162 @@
+ghost use Rattle.std.specs.Prelude.{◌≡◌, ◌<◌, IfOk, length, [], ◌∷◌};
+ghost use Rattle.dl_syntax.specs.Rows.{Relation};
+
+use super::*;
+use antichains::from_sets;
+use dl_syntax::{IndId, Tuples};
+use formula_store::{Link, Store};
+use std::alloc::Global;
+
+// A link of the chain of these sets.
+fn link(alloc: Global, sets: &[u8]) -> Result<Link, Memory> {
+    let chain = from_sets(alloc, sets)?;
+    Link::new(alloc, chain)
+}
+
+// A chain for the first of three individuals, and one for the others.
+fn first_and_others(alloc: Global, first: &[u8], others: &[u8]) -> Result<Table, Memory>
+    ensures slots { IfOk result (λ t. t.slots ≡ 3) }
+    ensures arity { IfOk result (λ t. t.arity ≡ 1) }
+{
+    let first = link(alloc, first)?;
+    let others = link(alloc, others)?;
+    from_runs(alloc, 3, 1, &[(1, first), (2, others)])
+}
+
+// A chain for each of three individuals.
+fn everywhere(alloc: Global, sets: &[u8]) -> Result<Table, Memory>
+    ensures slots { IfOk result (λ t. t.slots ≡ 3) }
+    ensures arity { IfOk result (λ t. t.arity ≡ 1) }
+{
+    let chain = link(alloc, sets)?;
+    fill(alloc, 3, 1, &chain)
+}
+
+// The one row of the one individual 0.
+fn zero_row(alloc: Global) -> Result<Tuples, Memory>
+    ensures { IfOk result (λ rows. rows ≡ record { arity = 1; rows = ((record { 0 = 0 }) ∷ []) ∷ [] }) }
+{
+    let mut rows = Tuples::new(alloc, 1);
+    rows.push(&[IndId(0)])?;
+    Ok(rows)
+}
+
+// The table over pairs of three individuals that is true where the second is 0.
+fn second_is_zero(alloc: Global) -> Result<Table, Memory>
+    ensures slots { IfOk result (λ t. t.slots ≡ 3) }
+    ensures arity { IfOk result (λ t. t.arity ≡ 2) }
+{
+    let rows = zero_row(alloc)?;
+    let mut store = Store::new(alloc);
+    from_tuples(alloc, 3, 2, &[1], &rows, &mut store)
+}
+
+// Whether the table has these sets at an individual.
+fn has(table: &Table, individual: u32, sets: &[u8]) -> bool
+    requires slot { individual < table.now.slots }
+    requires one { table.now.arity ≡ 1 }
+{
+    table.get(&[IndId(individual)]).chain().sets() == sets
+}
+
+// Whether the table has these sets at a pair.
+fn has_pair(table: &Table, first: u32, second: u32, sets: &[u8]) -> bool
+    requires first { first < table.now.slots }
+    requires second { second < table.now.slots }
+    requires two { table.now.arity ≡ 2 }
+{
+    table.get(&[IndId(first), IndId(second)]).chain().sets() == sets
+}
+
+#[test]
+fn holds_where_the_second_is_zero(rt: HostRuntime) {
+    let table = second_is_zero(rt.alloc()).expect(&rt, "memory");
+    assert!(rt; has_pair(&table, 0, 0, &[0]));
+    assert!(rt; has_pair(&table, 2, 0, &[0]));
+    assert!(rt; has_pair(&table, 0, 1, &[]));
+    assert!(rt; has_pair(&table, 2, 2, &[]));
+}
+
+#[test]
+fn lists_where_it_holds(rt: HostRuntime) {
+    let table = second_is_zero(rt.alloc()).expect(&rt, "memory");
+    let tuples = table.tuples_holding(rt.alloc(), 0).expect(&rt, "memory");
+    assert!(rt; tuples.len() == 3);
+    assert!(rt; tuples.row(0) == [IndId(0), IndId(0)].as_slice());
+    assert!(rt; tuples.row(2) == [IndId(2), IndId(0)].as_slice());
+}
+
+#[test]
+fn links_true_and_false(rt: HostRuntime) {
+    let table = second_is_zero(rt.alloc()).expect(&rt, "memory");
+    let links = table.links(rt.alloc()).expect(&rt, "memory");
+    assert!(rt; links.len() == 7);
+    assert!(rt; links[0].chain().sets() == [0].as_slice());
+    assert!(rt; links[6].chain().sets() == [].as_slice());
+    assert!(rt; table.distinct_links().len() == 2);
+}
+
+#[test]
+fn combines_by_either(rt: HostRuntime) {
+    let a = first_and_others(rt.alloc(), &[0], &[]).expect(&rt, "memory");
+    let b = everywhere(rt.alloc(), &[1]).expect(&rt, "memory");
+    let mut store = Store::new(rt.alloc());
+    let either = combine_or(rt.alloc(), &a, &b, &mut store).expect(&rt, "memory");
+    assert!(rt; has(&either, 0, &[0]));
+    assert!(rt; has(&either, 2, &[1]));
+}
+
+#[test]
+fn combines_by_both(rt: HostRuntime) {
+    let a = first_and_others(rt.alloc(), &[0], &[]).expect(&rt, "memory");
+    let b = everywhere(rt.alloc(), &[1]).expect(&rt, "memory");
+    let mut store = Store::new(rt.alloc());
+    let both = combine_and(rt.alloc(), &a, &b, &mut store).expect(&rt, "memory");
+    assert!(rt; has(&both, 0, &[1]));
+    assert!(rt; has(&both, 2, &[]));
+}
+
+#[test]
+fn substitutes(rt: HostRuntime) {
+    let value = first_and_others(rt.alloc(), &[0], &[]).expect(&rt, "memory");
+    let table = everywhere(rt.alloc(), &[1]).expect(&rt, "memory");
+    let mut store = Store::new(rt.alloc());
+    let replaced = substitute_all(rt.alloc(), &table, &[value], &mut store).expect(&rt, "memory");
+    assert!(rt; has(&replaced, 0, &[0]));
+    assert!(rt; has(&replaced, 1, &[]));
+}
+
+#[test]
+fn reads_runs(rt: HostRuntime) {
+    let table = first_and_others(rt.alloc(), &[1], &[]).expect(&rt, "memory");
+    assert!(rt; has(&table, 0, &[1]));
+    assert!(rt; has(&table, 1, &[]));
+    assert!(rt; has(&table, 2, &[]));
+}
+
+#[test]
+fn widens_by_the_last_slot(rt: HostRuntime) {
+    let table = first_and_others(rt.alloc(), &[1], &[]).expect(&rt, "memory");
+    let wider = table.widen(rt.alloc()).expect(&rt, "memory");
+    assert!(rt; has(&wider, 0, &[1]));
+    assert!(rt; has(&wider, 1, &[]));
+    assert!(rt; has(&wider, 3, &[]));
+}
+
+#[test]
+fn copies(rt: HostRuntime) {
+    let table = first_and_others(rt.alloc(), &[1], &[]).expect(&rt, "memory");
+    let copy = table.copy().expect(&rt, "memory");
+    assert!(rt; copy.slots() == 3);
+    assert!(rt; copy.arity() == 1);
+    assert!(rt; has(&copy, 0, &[1]));
+    assert!(rt; copy.usual().is_some());
+}
+
+#[test]
+fn has_no_default_without_tuples(rt: HostRuntime) {
+    let one = link(rt.alloc(), &[1]).expect(&rt, "memory");
+    let table = fill(rt.alloc(), 0, 2, &one).expect(&rt, "memory");
+    assert!(rt; table.usual().is_none());
+    assert!(rt; table.distinct_links().is_empty());
+}

@@ -1,0 +1,5 @@
+use Rattle.monitor_run.proofs.CompleteRewriting.{rewriting_completeness}
+use Rattle.monitor_run.proofs.laws.rewriting_completeness.Goals as goal
+
+pub returns : goal.returns
+returns c = rewriting_completeness

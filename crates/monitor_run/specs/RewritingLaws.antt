@@ -1,0 +1,33 @@
+-- Laws of rewritings.
+use Rattle.std.specs.Prelude.{◌≡◌, ◌⊎◌, ℕ, List, Some}
+use Rattle.std.specs.declared.option.Option.{Option}
+use Rattle.edge_io.specs.Causes.{Rose}
+use Rattle.edge_io.specs.Held.{Store}
+use Rattle.monitor_core.specs.Setting.{Setting}
+use Rattle.monitor_run.specs.declared.ending.Status.{Status}
+use Rattle.monitor_run.specs.declared.ending.Status.TheVariants.{Done, Memory}
+use Rattle.monitor_run.specs.Leaves.{IsRewriting}
+use Rattle.monitor_run.specs.Reaching.{AreTooMany}
+use Rattle.monitor_run.specs.Sources.{AreRewrite, Sayings}
+use Rattle.monitor_run.specs.Running.{Outside, Ran}
+
+-- the rewritings of the same queries are one text
+abbrev pub OneRewriting : Type 0
+OneRewriting = (setting : Setting) (one other : List ℕ) → IsRewriting setting one → IsRewriting setting other → one ≡ other
+
+-- the words name files that have no fault and reach no more than may be, and no count rose
+pub record IsGoodRewriting (words : List (List ℕ)) (before now : Outside) : Type 0 where
+  pub ontology_name : List ℕ
+  pub queries_name : List ℕ
+  pub words_are : AreRewrite words ontology_name queries_name
+  pub files : Store
+  pub held : before.held ≡ Some files
+  pub setting : Setting
+  pub say : Sayings before.held ontology_name queries_name setting
+  pub few : ¬ AreTooMany setting
+  pub no_file_fault : ¬ Rose before.file_faults now.file_faults
+  pub no_write_fault : ¬ Rose before.write_faults now.write_faults
+
+-- where nothing fails a rewriting is done, but for want of memory
+abbrev pub RewritingCompleteness : Type 0
+RewritingCompleteness = (status : Status) (words : List (List ℕ)) (before now : Outside) (err_before err_now : Option (List ℕ)) (err_faults_before err_faults_now : ℕ) → Ran status words before now err_before err_now err_faults_before err_faults_now → IsGoodRewriting words before now → (status ≡ Done) ⊎ (status ≡ Memory)
