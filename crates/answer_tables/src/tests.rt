@@ -23,13 +23,13 @@ fn first_and_others(alloc: Global, first: &[u8], others: &[u8]) -> Result<Table,
     from_runs(alloc, 3, 1, &[(1, first), (2, others)])
 }
 
-// A chain for each of three individuals.
+// A chain for each pair of three individuals.
 fn everywhere(alloc: Global, sets: &[u8]) -> Result<Table, Memory>
     ensures slots { IfOk result (λ t. t.slots ≡ 3) }
-    ensures arity { IfOk result (λ t. t.arity ≡ 1) }
+    ensures arity { IfOk result (λ t. t.arity ≡ 2) }
 {
     let chain = link(alloc, sets)?;
-    fill(alloc, 3, 1, &chain)
+    fill(alloc, 3, 2, &chain)
 }
 
 // The one row of the one individual 0.
@@ -49,6 +49,26 @@ fn second_is_zero(alloc: Global) -> Result<Table, Memory>
     let rows = zero_row(alloc)?;
     let mut store = Store::new(alloc);
     from_tuples(alloc, 3, 2, &[1], &rows, &mut store)
+}
+
+// The rows of each of three individuals.
+fn all_rows(alloc: Global) -> Result<Tuples, Memory>
+    ensures { IfOk result (λ rows. rows ≡ record { arity = 1; rows = ((record { 0 = 0 }) ∷ []) ∷ ((record { 0 = 1 }) ∷ []) ∷ ((record { 0 = 2 }) ∷ []) ∷ [] }) }
+{
+    let mut rows = zero_row(alloc)?;
+    rows.push(&[IndId(1)])?;
+    rows.push(&[IndId(2)])?;
+    Ok(rows)
+}
+
+// The table that is true where the one individual is one of three.
+fn all_rows_table(alloc: Global) -> Result<Table, Memory>
+    ensures slots { IfOk result (λ t. t.slots ≡ 3) }
+    ensures arity { IfOk result (λ t. t.arity ≡ 1) }
+{
+    let rows = all_rows(alloc)?;
+    let mut store = Store::new(alloc);
+    from_tuples(alloc, 3, 1, &[0], &rows, &mut store)
 }
 
 // Whether the table has these sets at an individual.
@@ -98,32 +118,42 @@ fn links_true_and_false(rt: HostRuntime) {
 
 #[test]
 fn combines_by_either(rt: HostRuntime) {
-    let a = first_and_others(rt.alloc(), &[0], &[]).expect(&rt, "memory");
+    let a = second_is_zero(rt.alloc()).expect(&rt, "memory");
     let b = everywhere(rt.alloc(), &[1]).expect(&rt, "memory");
     let mut store = Store::new(rt.alloc());
     let either = combine_or(rt.alloc(), &a, &b, &mut store).expect(&rt, "memory");
-    assert!(rt; has(&either, 0, &[0]));
-    assert!(rt; has(&either, 2, &[1]));
+    assert!(rt; has_pair(&either, 2, 0, &[0]));
+    assert!(rt; has_pair(&either, 0, 1, &[1]));
+    assert!(rt; has_pair(&either, 2, 2, &[1]));
 }
 
 #[test]
 fn combines_by_both(rt: HostRuntime) {
-    let a = first_and_others(rt.alloc(), &[0], &[]).expect(&rt, "memory");
+    let a = second_is_zero(rt.alloc()).expect(&rt, "memory");
     let b = everywhere(rt.alloc(), &[1]).expect(&rt, "memory");
     let mut store = Store::new(rt.alloc());
     let both = combine_and(rt.alloc(), &a, &b, &mut store).expect(&rt, "memory");
-    assert!(rt; has(&both, 0, &[1]));
-    assert!(rt; has(&both, 2, &[]));
+    assert!(rt; has_pair(&both, 2, 0, &[1]));
+    assert!(rt; has_pair(&both, 0, 1, &[]));
+    assert!(rt; has_pair(&both, 2, 2, &[]));
 }
 
 #[test]
 fn substitutes(rt: HostRuntime) {
-    let value = first_and_others(rt.alloc(), &[0], &[]).expect(&rt, "memory");
+    let value = second_is_zero(rt.alloc()).expect(&rt, "memory");
     let table = everywhere(rt.alloc(), &[1]).expect(&rt, "memory");
     let mut store = Store::new(rt.alloc());
     let replaced = substitute_all(rt.alloc(), &table, &[value], &mut store).expect(&rt, "memory");
-    assert!(rt; has(&replaced, 0, &[0]));
-    assert!(rt; has(&replaced, 1, &[]));
+    assert!(rt; has_pair(&replaced, 2, 0, &[0]));
+    assert!(rt; has_pair(&replaced, 0, 1, &[]));
+}
+
+#[test]
+fn holds_everywhere_with_all_rows(rt: HostRuntime) {
+    let table = all_rows_table(rt.alloc()).expect(&rt, "memory");
+    assert!(rt; has(&table, 0, &[0]));
+    assert!(rt; has(&table, 2, &[0]));
+    assert!(rt; table.distinct_links().len() == 1);
 }
 
 #[test]

@@ -1,4 +1,4 @@
--- The rewriting of a query over an ontology: the reachable queries that name no hidden role.
+-- The rewriting of a query over an ontology, after Calvanese, De Giacomo, Lembo, Lenzerini and Rosati 2007: the reachable queries that name no hidden role.
 use Rattle.std.specs.Prelude.{◌≡◌, ◌≢◌, ℕ, ◌<◌, List, length}
 use Rattle.std.specs.List.{All, AllPairs, Contains}
 use Rattle.dl_syntax.specs.declared.ontology.Inclusion.{Inclusion}

@@ -1,4 +1,4 @@
--- Substitutions of terms for variables, and the most general of those that make two atoms equal.
+-- Substitutions of terms for variables, and the most general of those that make two atoms equal, after Robinson 1965 and Martelli and Montanari 1982.
 use Rattle.std.specs.Prelude.{◌≡◌, ◌==◌, ℕ, if◌then◌else◌, List, [], ◌∷◌, map}
 use Rattle.dl_syntax.specs.declared.queries.Term.{Term}
 use Rattle.dl_syntax.specs.declared.queries.Term.TheVariants.{Var, Ind}

@@ -1,4 +1,4 @@
--- Unbound variables, and what an inclusion lets an atom become.
+-- Unbound variables, and what an inclusion lets an atom become, after Calvanese, De Giacomo, Lembo, Lenzerini and Rosati 2007.
 use Rattle.std.specs.Prelude.{◌≡◌, ◌==◌, ℕ, ◌+◌, if◌then◌else◌, List, [], ◌∷◌}
 use Rattle.dl_syntax.specs.declared.ontology.Role.{Role}
 use Rattle.dl_syntax.specs.declared.ontology.Basic.{Basic}

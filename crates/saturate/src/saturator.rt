@@ -127,7 +127,7 @@ impl Saturator {
         Ok(found)
     }
 
-    /// Exactly the facts over individuals that some run of the snapshot holds, each once, in an order of the call's choice.
+    /// Exactly the facts over individuals that some run of the snapshot holds, each once, in an order of the call's choice: one look-up for each fact, and an insertion for each that it implies.
     pub fn saturate(&self, alloc: Global, snapshot: &Snapshot) -> Result<Snapshot, Memory>
         ensures { IfOk result (IsSaturation self.now snapshot.now) }
     {
@@ -137,7 +137,7 @@ impl Saturator {
     }
 }
 
-/// Exactly the facts over individuals that some run of the snapshot under the ontology's inclusions holds, each once, in an order of the call's choice: the snapshot's own, and whatever follows from them by concepts and roles, with no null named. What has a partner only among nulls is in what the inclusions say of it.
+/// Exactly the facts over individuals that some run of the snapshot under the ontology's inclusions holds, each once, in an order of the call's choice: the snapshot's own, and what follows from them by concepts and roles alone. An inclusion with `some` on the right makes no pair of individuals, and counts by what stands above it. The chase is that of Calvanese et al. (2007).
 pub fn saturate(alloc: Global, ontology: &Ontology, snapshot: &Snapshot) -> Result<Snapshot, Memory>
     ensures { IfOk result (IsSaturation ontology.now.inclusions snapshot.now) }
 {

@@ -1,14 +1,11 @@
-use Rattle.std.proofs.Common.{◌≡◌, get_or, length, refl, sym, ◌∙◌, ap, inl, inr, arith}
-use Rattle.std.specs.Prelude.{Some, slice_get, false}
-use Rattle.std.specs.declared.cmp.Ordering.{Ordering}
-use Rattle.std.specs.declared.cmp.Ordering.TheVariants.{Less, Greater}
+use Rattle.std.proofs.Common.{get_or, sym, ◌∙◌, ap, inl, inr, arith}
 use Rattle.std.proofs.lemmas.Option.{slice_get-get_or}
 use Rattle.dl_syntax.specs.declared.facts.Element.TheVariants.{Ind}
 use Rattle.dl_syntax.specs.declared.facts.Fact.{Fact}
 use Rattle.dl_syntax.specs.declared.facts.Fact.TheVariants as fact
 use Rattle.fact_index.specs.Order.{fact_cmp}
 use Rattle.consistency.specs.Pairs.{as_fact_of}
-use Rattle.consistency.proofs.PairMerge.{Passed-start, Passed-less, Passed-greater, Passed-all}
+use Rattle.consistency.proofs.PairMerge.{Passed-less, Passed-greater, Passed-all}
 use Rattle.consistency.proofs.pairs.have_common.Goals as goal
 
 none : Fact
