@@ -8,6 +8,8 @@ mod keep;
 mod kept;
 mod own;
 mod step;
+#[cfg(test)]
+mod tests;
 mod weak;
 
 pub use advancing::advance;
