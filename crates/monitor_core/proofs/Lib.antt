@@ -1,2 +1,9 @@
-mod InstanceRows
-mod Accepting
+pub mod Counting
+pub mod LeafAnswers
+pub mod Advances
+pub mod Storing
+pub mod Saturating
+pub mod Askable
+pub mod Starting
+pub mod OneQuery
+pub mod Accepting

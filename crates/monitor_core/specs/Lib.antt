@@ -1,5 +1,8 @@
 pub mod Setting
-pub mod Clashes
 pub mod Answering
+pub mod Planning
+pub mod Opening
+pub mod Leaves
+pub mod Keeping
+pub mod Advancing
 pub mod Standing
-pub mod Instances

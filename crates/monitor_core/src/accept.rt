@@ -1,55 +1,99 @@
-ghost use Rattle.std.specs.Prelude.{◌≡◌, [], ◌∷◌, ℕ, IfOk, OnErr};
+// The next snapshot.
+ghost use Rattle.std.specs.Prelude.{◌≡◌, ◌<◌, ℕ, Some, length, slice_get, Err, IfOk, OnErr};
 ghost use Rattle.tcq_syntax.specs.Histories.{History};
-ghost use Rattle.monitor_core.specs.Setting.{AsksInstances, IsPlain};
-ghost use Rattle.monitor_core.specs.Clashes.{IsLeastClash, IsConsistentUnder};
+ghost use Rattle.tcq_syntax.specs.Tcq.{Tcq};
+ghost use Rattle.perfect_ref.specs.Laws.{IsSaturated};
+ghost use Rattle.progression.specs.Kept.{Fits};
+ghost use Rattle.consistency.specs.Least.{IsLeastClash, IsConsistentUnder};
 ghost use Rattle.monitor_core.specs.Answering.{AreOver, AreRowsOf};
-ghost use Rattle.monitor_core.specs.Standing.{Stands, Accepts, setting_of, no_history, count_of};
+ghost use Rattle.monitor_core.specs.Planning.{IsPlan};
+ghost use Rattle.monitor_core.specs.Keeping.{AllFit};
+ghost use Rattle.monitor_core.specs.Advancing.{Advances, AllAdvance};
+ghost use Rattle.monitor_core.specs.Standing.{Stands, Accepts, IsNext, setting_of};
 
 use crate::accept_fault::AcceptFault;
-use crate::instances::{instances_of, watched};
+use crate::leaves::leaf_answers;
 use crate::monitor::Monitor;
-use dl_syntax::{Memory, Ontology, Snapshot, Tuples};
+use crate::plan::Plan;
+use crate::state::{State, state_of};
+use consistency::first_clash_closed;
+use dl_syntax::{Memory, Snapshot, Tuples};
+use fact_index::{Index, build};
+use formula_store::Store;
+use progression::{Kept, advance};
 use std::alloc::Global;
-use std::slice;
-use tcq_syntax::Query;
 
-/// The monitor of this ontology and this query, before any snapshot.
-pub fn open(ontology: Ontology, query: Query) -> Monitor
-    requires plain { IsPlain ontology }
-    requires asks { AsksInstances query }
-    ensures stands { Stands result no_history }
-    ensures setting { setting_of result ≡ record { ontology = ontology; queries = query ∷ [] } }
-{
-    Monitor {
-        ontology,
-        query,
-        count: 0,
+/// What is kept of each query, and its answers.
+#[derive(Drop)]
+struct Advanced {
+    kept: Vec<Kept>,
+    answers: Vec<Tuples>,
+}
+
+impl Plan {
+    /// The facts over individuals that follow from the snapshot's.
+    fn closed(&self, alloc: Global, snapshot: &Snapshot) -> Result<Index, Memory>
+        requires plan { IsPlan self.now }
+        requires over { AreOver self.now.ontology snapshot.now }
+        ensures { IfOk result (λ index. IsSaturated self.now.ontology snapshot.now index) }
+    {
+        let facts = self.saturator.saturate(alloc, snapshot)?;
+        build::index(alloc, &facts)
+    }
+
+    /// What is kept of the query at the place after one more snapshot, from whose facts these follow, and its answers then.
+    fn advance_one(
+        &self,
+        alloc: Global,
+        place: usize,
+        kept: &Kept,
+        facts: &Index,
+        store: &mut Store,
+    ) -> Result<(Kept, Tuples), Memory>
+        requires plan { IsPlan self.now }
+        requires within { place < length self.now.queries.items }
+        requires fits { (query : Tcq) → slice_get self.now.queries.items place ≡ Some query → Fits query (length self.now.ontology.individuals) kept.now }
+        ensures { IfOk result (λ r. (query : Tcq) → slice_get self.now.queries.items place ≡ Some query → Advances self.now.ontology query facts.now kept.now r.0 r.1) }
+    {
+        let query = &self.queries[place];
+        let leaves = self.leaves.as_slice();
+        let answers = leaf_answers(alloc, facts, leaves[place].as_slice())?;
+        advance(alloc, query, self.slots, kept, answers.as_slice(), store)
+    }
+
+    /// What is kept of each query after one more snapshot, from whose facts these follow, and the answers then.
+    fn advanced(&self, alloc: Global, kept: &[Kept], facts: &Index) -> Result<Advanced, Memory>
+        requires plan { IsPlan self.now }
+        requires fits { AllFit self.now.ontology self.now.queries.items kept.now }
+        ensures { IfOk result (λ a. AllAdvance self.now.ontology self.now.queries.items facts.now kept.now a.kept.items a.answers.items) }
+    {
+        let mut store = Store::new(alloc);
+        let mut new = Vec::with_capacity(alloc, kept.len())?;
+        let mut answers = Vec::with_capacity(alloc, kept.len())?;
+        for place in 0..kept.len() {
+            let (k, rows) = self.advance_one(alloc, place, &kept[place], facts, &mut store)?;
+            new.push(k)?;
+            answers.push(rows)?;
+        }
+        Ok(Advanced { kept: new, answers })
     }
 }
 
 impl Monitor {
-    /// The queries in their order.
-    pub fn queries(&self) -> &[Query]
-        ensures { result.now ≡ (setting_of self.now).queries }
+    /// The next state, and the answers of each query then.
+    fn next(&self, alloc: Global, facts: &Index) -> Result<(State, Vec<Tuples>), Memory>
+        ensures { IfOk result (λ r. IsNext self.now facts.now r.0 r.1.items) }
     {
-        slice::from_ref(&self.query)
+        let advanced = self
+            .plan
+            .advanced(alloc, self.state.kept.as_slice(), facts)?;
+        let Advanced { kept, answers } = advanced;
+        let count = self.state.count.saturating_add(1);
+        let state = state_of(alloc, count, kept)?;
+        Ok((state, answers))
     }
 
-    /// The ontology under which they are answered.
-    pub fn ontology(&self) -> &Ontology
-        ensures { result.now ≡ (setting_of self.now).ontology }
-    {
-        &self.ontology
-    }
-
-    /// How many snapshots were accepted.
-    pub fn count(&self) -> u64
-        ensures { (history : History) → Stands self.now history → result ≡ count_of history }
-    {
-        self.count
-    }
-
-    /// Takes the next snapshot, and gives the answers of each query then.
+    /// Takes the next snapshot, and gives the answers of each query then. A snapshot that is inconsistent is refused with the least clash that it meets. A refused snapshot changes nothing.
     pub fn accept(&mut self, alloc: Global, snapshot: &Snapshot) -> Result<Vec<Tuples>, AcceptFault>
         requires { AreOver (setting_of self.old).ontology snapshot.now }
         ensures setting { setting_of self.new ≡ setting_of self.old }
@@ -59,19 +103,12 @@ impl Monitor {
         ensures contradiction { (number : ℕ) → result ≡ Err (AcceptFault.Contradiction number) → IsLeastClash (setting_of self.old).ontology snapshot.now number }
         ensures err { OnErr result (self.new ≡ self.old) }
     {
-        let concept = watched(&self.query);
-        let rows = instances_of(alloc, snapshot.facts(), concept)?;
-        let answers = single(alloc, rows)?;
-        self.count = self.count.saturating_add(1);
+        let facts = self.plan.closed(alloc, snapshot)?;
+        if let Some(number) = first_clash_closed(alloc, &self.plan.clashes, &facts)? {
+            return Err(AcceptFault::Contradiction(number));
+        }
+        let (state, answers) = self.next(alloc, &facts)?;
+        self.state = state;
         Ok(answers)
     }
-}
-
-/// A list of one.
-fn single(alloc: Global, rows: Tuples) -> Result<Vec<Tuples>, Memory>
-    ensures { IfOk result (λ answers. answers.items ≡ rows ∷ []) }
-{
-    let mut answers = Vec::with_capacity(alloc, 1)?;
-    answers.push(rows)?;
-    Ok(answers)
 }

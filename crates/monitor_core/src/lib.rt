@@ -1,11 +1,20 @@
-//! A monitor: the answers of its queries after each accepted snapshot.
+//! A monitor: the answers of temporal queries after each accepted snapshot.
+//!
+//! It keeps a plan, made once of the ontology and the queries, and a state: for each query a table for each kept node.
+//! A new state is built whole before it takes the place of the old one, so a refused snapshot changes nothing.
 #![tactic(auto)]
 
 mod accept;
 mod accept_fault;
-mod instances;
+mod leaves;
 mod monitor;
+mod opening;
+mod plan;
+mod state;
 
-pub use accept::open;
 pub use accept_fault::AcceptFault;
 pub use monitor::Monitor;
+pub use opening::open;
+pub use perfect_ref::RewriteFault as OpenFault;
+pub use plan::{Leaf, Plan};
+pub use state::State;

@@ -33,7 +33,7 @@ module _ (e : Encoded) where
   reaches_just (q ∷ qs) count (first, rest, holds, later, is) =
       (holds.0, rest, record { distinct = holds.1.distinct; sound = holds.1.sound }, reaches_just qs rest later, is ∙ ap (λ (n : ℕ). n + rest) (sym holds.2))
 
-  reaches_append : (xs ys : List Cq) (n m : ℕ) → Reaches e xs n → Reaches e ys m → Reaches e (xs ++ ys) (n + m)
+  pub reaches_append : (xs ys : List Cq) (n m : ℕ) → Reaches e xs n → Reaches e ys m → Reaches e (xs ++ ys) (n + m)
   reaches_append [] ys n m is other = let same : m ≡ n + m = omega (arith, is) in subst (Reaches e ys) same other
   reaches_append (q ∷ xs) ys n m (list, rest, are, later, is) other =
       (list, rest + m, are, reaches_append xs ys rest m later other, omega (arith, is))

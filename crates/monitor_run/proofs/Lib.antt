@@ -15,3 +15,5 @@ mod SourceTexts
 mod SortedTexts
 mod OneText
 mod CompleteRewriting
+pub mod GoodFiles
+pub mod Openings

@@ -12,9 +12,9 @@ use Rattle.snapshot_reader.specs.declared.Form.TheVariants as form
 use Rattle.snapshot_reader.specs.Said.{Said, nothing, says, said}
 use Rattle.snapshot_reader.specs.Said.{refused as is_refused}
 use Rattle.dl_syntax.specs.Ontology.{Declared}
-use Rattle.monitor_core.specs.declared.monitor.Monitor.{Monitor}
+use Rattle.monitor_core.specs.Keeping.{Monitored}
 use Rattle.monitor_core.specs.Answering.{AreAllAnswers}
-use Rattle.monitor_core.specs.Clashes.{IsLeastClash, IsConsistentUnder}
+use Rattle.consistency.specs.Least.{IsLeastClash, IsConsistentUnder}
 use Rattle.monitor_core.specs.Setting.{Setting}
 use Rattle.monitor_core.specs.Standing.{setting_of, Stands, Accepts, count_of}
 use Rattle.monitor_run.specs.declared.reply.Reply.{Reply}
@@ -32,7 +32,7 @@ answered setting history line place (query ∷ queries) (relation ∷ relations)
     (relation.rows, all_answers line (count_of history) (place + 1) relations, are.0, answered setting history line (place + 1) queries relations are.1, refl)
 
 -- a snapshot was accepted
-pub took_snapshot : (old new : Monitor) (line : List ℕ) (facts : List Fact) (relations : List Relation) (reply : Reply) (count : ℕ) (history : History) → said (setting_of old).ontology form.Text line ≡ says facts → IsConsistentUnder (setting_of old).ontology facts → Accepts old new facts relations history → ((at : History) → Stands new at → count ≡ count_of at) → ((number : ℕ) → told_by number reply ≡ item.Accepted number count ∷ all_answers number count 0 relations) → AcceptsLine old new (text line) reply history
+pub took_snapshot : (old new : Monitored) (line : List ℕ) (facts : List Fact) (relations : List Relation) (reply : Reply) (count : ℕ) (history : History) → said (setting_of old).ontology form.Text line ≡ says facts → IsConsistentUnder (setting_of old).ontology facts → Accepts old new facts relations history → ((at : History) → Stands new at → count ≡ count_of at) → ((number : ℕ) → told_by number reply ≡ item.Accepted number count ∷ all_answers number count 0 relations) → AcceptsLine old new (text line) reply history
 took_snapshot old new line facts relations reply count history is consistent accepts counts tells =
     let after : History = with_snapshot facts history in
     let counted : count ≡ count_of after = counts after accepts.stands in
@@ -52,7 +52,7 @@ took_snapshot old new line facts relations reply count history is consistent acc
     }
 
 -- a snapshot was refused for a clash
-pub clashed : (old : Monitor) (line : List ℕ) (facts : List Fact) (reply : Reply) (clash : ℕ) (history : History) → said (setting_of old).ontology form.Text line ≡ says facts → IsLeastClash (setting_of old).ontology facts clash → Stands old history → reply ≡ Refused (Contradiction clash) → AcceptsLine old old (text line) reply history
+pub clashed : (old : Monitored) (line : List ℕ) (facts : List Fact) (reply : Reply) (clash : ℕ) (history : History) → said (setting_of old).ontology form.Text line ≡ says facts → IsLeastClash (setting_of old).ontology facts clash → Stands old history → reply ≡ Refused (Contradiction clash) → AcceptsLine old old (text line) reply history
 clashed old line facts reply clash history is least stands same = record {
   after = history;
   stands = stands;
@@ -69,7 +69,7 @@ refused_has o (is_refused c) cause is = ap refused is
 refused_has o (says facts) cause is = absurd is
 
 -- a text was refused
-pub refused_text : (old : Monitor) (line : List ℕ) (reply : Reply) (cause : Cause) (history : History) → IsRefusedFor (said (setting_of old).ontology form.Text line) cause → Stands old history → reply ≡ Refused cause → AcceptsLine old old (text line) reply history
+pub refused_text : (old : Monitored) (line : List ℕ) (reply : Reply) (cause : Cause) (history : History) → IsRefusedFor (said (setting_of old).ontology form.Text line) cause → Stands old history → reply ≡ Refused cause → AcceptsLine old old (text line) reply history
 refused_text old line reply cause history is stands same = record {
   after = history;
   stands = stands;
@@ -77,7 +77,7 @@ refused_text old line reply cause history is stands same = record {
 }
 
 -- a text says nothing
-pub skipped_text : (old : Monitor) (line : List ℕ) (reply : Reply) (history : History) → said (setting_of old).ontology form.Text line ≡ nothing → Stands old history → reply ≡ Skip → AcceptsLine old old (text line) reply history
+pub skipped_text : (old : Monitored) (line : List ℕ) (reply : Reply) (history : History) → said (setting_of old).ontology form.Text line ≡ nothing → Stands old history → reply ≡ Skip → AcceptsLine old old (text line) reply history
 skipped_text old line reply history is stands same = record {
   after = history;
   stands = stands;
@@ -85,14 +85,14 @@ skipped_text old line reply history is stands same = record {
 }
 
 -- one line is asked
-pub asked_line : (old new : Monitor) (line : StreamLine) (reply : Reply) (history : History) (number : ℕ) → AcceptsLine old new line reply history → Asked old new (line ∷ []) number history (told_by number reply)
+pub asked_line : (old new : Monitored) (line : StreamLine) (reply : Reply) (history : History) (number : ℕ) → AcceptsLine old new line reply history → Asked old new (line ∷ []) number history (told_by number reply)
 asked_line old new line reply history number accepts = record {
   after = accepts.after;
   stands = accepts.stands;
   tells = (told_by number reply, [], accepts.after, accepts.tells number, (refl, refl), sym (append-nil (told_by number reply)));
 }
 
-pub asked_long : (old : Monitor) (reply : Reply) (history : History) (number : ℕ) → Stands old history → reply ≡ Refused TooLong → Asked old old (too_long ∷ []) number history (told_by number reply)
+pub asked_long : (old : Monitored) (reply : Reply) (history : History) (number : ℕ) → Stands old history → reply ≡ Refused TooLong → Asked old old (too_long ∷ []) number history (told_by number reply)
 asked_long old reply history number stands same = record {
   after = history;
   stands = stands;

@@ -7,14 +7,14 @@ use Rattle.edge_io.specs.Writing.{Writes}
 use Rattle.monitor_core.specs.Setting.{Setting}
 use Rattle.monitor_core.specs.Standing.{no_history}
 use Rattle.monitor_run.specs.declared.ending.Ending.{Ending}
-use Rattle.monitor_run.specs.declared.ending.Ending.TheVariants.{Done, Usage, BadOntology, UnbuiltOntology, TooManyRewritings, BadQueries, UnbuiltQueries, ReadFault, WriteFault, Memory, StreamLimit}
-use Rattle.monitor_run.specs.Opening.{AreWatch, IsWatch, Opens, Refuses}
+use Rattle.monitor_run.specs.declared.ending.Ending.TheVariants.{Done, Usage, BadOntology, TooManyRewritings, BadQueries, ReadFault, WriteFault, Memory, StreamLimit}
+use Rattle.monitor_run.specs.Opening.{AreWatch, IsWatch}
 use Rattle.monitor_run.specs.Watching.{Watched}
 use Rattle.edge_io.specs.Held.{Store}
 use Rattle.monitor_run.specs.Ends.{Finishes}
 use Rattle.monitor_run.specs.Leaves.{IsRewriting}
 use Rattle.monitor_run.specs.Reaching.{AreTooMany}
-use Rattle.monitor_run.specs.Sources.{AreRewrite, IsRewrite, Sayings}
+use Rattle.monitor_run.specs.Sources.{AreRewrite, IsRewrite, Sayings, Opens, Refuses}
 use Rattle.monitor_run.specs.Rewriting.{RewriteEnds}
 use Rattle.monitor_run.specs.Running.{Outside, IsUntouched, FilesEnd, RewriteRuns, ThreeEnd, RunEnds, Says}
 
@@ -22,10 +22,8 @@ pub files_watched : (ending : Ending) (o q : List ℕ) (before now : Outside) (s
 files_watched Done o q before now setting opens watched read write = record { setting = setting; opens = opens; watched = watched }
 files_watched Usage o q before now setting opens watched read write = watched.writes
 files_watched (BadOntology line kind) o q before now setting opens watched read write = absurd watched.writes
-files_watched UnbuiltOntology o q before now setting opens watched read write = absurd watched.writes
-files_watched TooManyRewritings o q before now setting opens watched read write = watched.writes
+files_watched TooManyRewritings o q before now setting opens watched read write = absurd watched.writes
 files_watched (BadQueries line kind) o q before now setting opens watched read write = absurd watched.writes
-files_watched UnbuiltQueries o q before now setting opens watched read write = absurd watched.writes
 files_watched ReadFault o q before now setting opens watched read write = inr (read refl, record { setting = setting; opens = opens; watched = watched })
 files_watched WriteFault o q before now setting opens watched read write = (write refl, record { setting = setting; opens = opens; watched = watched })
 files_watched Memory o q before now setting opens watched read write = inr (record { setting = setting; opens = opens; watched = watched })
@@ -35,10 +33,8 @@ pub files_refused : (ending : Ending) (o q : List ℕ) (before now : Outside) �
 files_refused Done o q before now refuses untouched = absurd refuses
 files_refused Usage o q before now refuses untouched = refuses
 files_refused (BadOntology line kind) o q before now refuses untouched = record { refuses = refuses; untouched = untouched }
-files_refused UnbuiltOntology o q before now refuses untouched = record { refuses = refuses; untouched = untouched }
-files_refused TooManyRewritings o q before now refuses untouched = refuses
+files_refused TooManyRewritings o q before now refuses untouched = record { refuses = refuses; untouched = untouched }
 files_refused (BadQueries line kind) o q before now refuses untouched = record { refuses = refuses; untouched = untouched }
-files_refused UnbuiltQueries o q before now refuses untouched = record { refuses = refuses; untouched = untouched }
 files_refused ReadFault o q before now refuses untouched = inl (record { refuses = refuses; untouched = untouched })
 files_refused WriteFault o q before now refuses untouched = absurd refuses
 files_refused Memory o q before now refuses untouched = inl untouched
@@ -48,10 +44,8 @@ pub three_ends : (ending : Ending) (c o q : List ℕ) (before now : Outside) →
 three_ends Usage c o q before now watch ends = absurd ends
 three_ends Done c o q before now watch ends = inl (watch, ends)
 three_ends (BadOntology line kind) c o q before now watch ends = inl (watch, ends)
-three_ends UnbuiltOntology c o q before now watch ends = inl (watch, ends)
 three_ends TooManyRewritings c o q before now watch ends = inl (watch, ends)
 three_ends (BadQueries line kind) c o q before now watch ends = inl (watch, ends)
-three_ends UnbuiltQueries c o q before now watch ends = inl (watch, ends)
 three_ends ReadFault c o q before now watch ends = inl (watch, ends)
 three_ends WriteFault c o q before now watch ends = inl (watch, ends)
 three_ends Memory c o q before now watch ends = inl (watch, ends)
@@ -61,10 +55,8 @@ pub three_rewrite : (ending : Ending) (c o q : List ℕ) (before now : Outside) 
 three_rewrite Usage c o q before now rewrite ends = absurd ends.1.refuses
 three_rewrite Done c o q before now rewrite ends = inr (rewrite, ends)
 three_rewrite (BadOntology line kind) c o q before now rewrite ends = inr (rewrite, ends)
-three_rewrite UnbuiltOntology c o q before now rewrite ends = inr (rewrite, ends)
 three_rewrite TooManyRewritings c o q before now rewrite ends = inr (rewrite, ends)
 three_rewrite (BadQueries line kind) c o q before now rewrite ends = inr (rewrite, ends)
-three_rewrite UnbuiltQueries c o q before now rewrite ends = inr (rewrite, ends)
 three_rewrite ReadFault c o q before now rewrite ends = inr (rewrite, ends)
 three_rewrite WriteFault c o q before now rewrite ends = inr (rewrite, ends)
 three_rewrite Memory c o q before now rewrite ends = inr (rewrite, ends)
@@ -95,10 +87,8 @@ module _ (words : List (List ℕ)) (c o q : List ℕ) (before now : Outside) (is
   words_end Usage ends = (never_watch words c o q is ends.0, never_rewrite words c o q is ends.1, ends.2)
   words_end Done ends = (o, q, by_command Done ends)
   words_end (BadOntology line kind) ends = (o, q, by_command (BadOntology line kind) ends)
-  words_end UnbuiltOntology ends = (o, q, by_command UnbuiltOntology ends)
   words_end TooManyRewritings ends = (o, q, by_command TooManyRewritings ends)
   words_end (BadQueries line kind) ends = (o, q, by_command (BadQueries line kind) ends)
-  words_end UnbuiltQueries ends = (o, q, by_command UnbuiltQueries ends)
   words_end ReadFault ends = (o, q, by_command ReadFault ends)
   words_end WriteFault ends = (o, q, by_command WriteFault ends)
   words_end Memory ends = (o, q, by_command Memory ends)
@@ -111,10 +101,8 @@ rewrote WriteFault o q held ff ff' gb gn wf wf' setting text say few is finishes
 rewrote Memory o q held ff ff' gb gn wf wf' setting text say few is finishes rose kept = record { refuses = tt; unwritten = kept refl }
 rewrote Usage o q held ff ff' gb gn wf wf' setting text say few is finishes rose kept = absurd finishes.is
 rewrote (BadOntology line kind) o q held ff ff' gb gn wf wf' setting text say few is finishes rose kept = absurd finishes.is
-rewrote UnbuiltOntology o q held ff ff' gb gn wf wf' setting text say few is finishes rose kept = absurd finishes.is
 rewrote TooManyRewritings o q held ff ff' gb gn wf wf' setting text say few is finishes rose kept = absurd finishes.is
 rewrote (BadQueries line kind) o q held ff ff' gb gn wf wf' setting text say few is finishes rose kept = absurd finishes.is
-rewrote UnbuiltQueries o q held ff ff' gb gn wf wf' setting text say few is finishes rose kept = absurd finishes.is
 rewrote ReadFault o q held ff ff' gb gn wf wf' setting text say few is finishes rose kept = absurd finishes.is
 rewrote StreamLimit o q held ff ff' gb gn wf wf' setting text say few is finishes rose kept = absurd finishes.is
 

@@ -6,7 +6,7 @@ use Rattle.edge_io.specs.Lines.{Item as StreamLine, items, Continues, Gives}
 use Rattle.edge_io.specs.Reading.{Reading, Reads}
 use Rattle.edge_io.proofs.Continuing.{Gives-after}
 use Rattle.edge_io.proofs.KnownLemmas.{Takes-none, Takes-trans, Gains-none, Gains-trans}
-use Rattle.monitor_core.specs.declared.monitor.Monitor.{Monitor}
+use Rattle.monitor_core.specs.Keeping.{Monitored}
 use Rattle.monitor_core.specs.Setting.{Setting}
 use Rattle.report_text.specs.declared.item.Item.{Item}
 use Rattle.monitor_run.specs.Told.{Told}
@@ -61,7 +61,7 @@ took_more lb ln ln' old new given more so_far reads =
     ] refl
 
 -- before anything is taken or written
-pub serves_first : (setting : Setting) (history : History) (left got : Option (List ℕ)) (reading : Reading) (monitor : Monitor) (gathered : List ℕ) → reading ≡ record { pending = []; is_ended = false; taken = 0; limit = 2 ^ 40 } → gathered ≡ heading → setting_of monitor ≡ setting → Stands monitor history → Serves setting history left left got got reading monitor gathered 0 0
+pub serves_first : (setting : Setting) (history : History) (left got : Option (List ℕ)) (reading : Reading) (monitor : Monitored) (gathered : List ℕ) → reading ≡ record { pending = []; is_ended = false; taken = 0; limit = 2 ^ 40 } → gathered ≡ heading → setting_of monitor ≡ setting → Stands monitor history → Serves setting history left left got got reading monitor gathered 0 0
 serves_first setting history left got reading monitor gathered fresh whole same stands = record {
   given = [];
   took = took_first left reading fresh;
@@ -78,7 +78,7 @@ serves_first setting history left got reading monitor gathered fresh whole same 
 }
 
 -- what was gathered moved on to the sink
-pub serves_flushed : {T E : Type 0} {u : T} (setting : Setting) (history : History) (lb ln gb gn gn' : Option (List ℕ)) (reading : Reading) (monitor : Monitor) (gathered gathered' : List ℕ) (line refused : ℕ) (is_emptied : Bool) → Serves setting history lb ln gb gn reading monitor gathered line refused → Flushes {T = T} {E = E} is_emptied gn gn' gathered gathered' (Ok u) → Serves setting history lb ln gb gn' reading monitor gathered' line refused
+pub serves_flushed : {T E : Type 0} {u : T} (setting : Setting) (history : History) (lb ln gb gn gn' : Option (List ℕ)) (reading : Reading) (monitor : Monitored) (gathered gathered' : List ℕ) (line refused : ℕ) (is_emptied : Bool) → Serves setting history lb ln gb gn reading monitor gathered line refused → Flushes {T = T} {E = E} is_emptied gn gn' gathered gathered' (Ok u) → Serves setting history lb ln gb gn' reading monitor gathered' line refused
 serves_flushed setting history lb ln gb gn gn' reading monitor gathered gathered' line refused is_emptied so_far flushes = record {
   given = so_far.given;
   took = so_far.took;
@@ -98,7 +98,7 @@ text_more : (setting : Setting) (told more : List Item) → text_of setting (tol
 text_more setting told more = ap (λ l. heading ++ l) (bytes-append setting told more) ∙ sym (append_assoc heading (bytes_of setting told) (bytes_of setting more))
 
 -- the reader gave one more line, and what is told of it was gathered
-pub serves_told : (setting : Setting) (history : History) (lb ln ln' gb gn : Option (List ℕ)) (old new : Reading) (monitor monitor' : Monitor) (gathered gathered' : List ℕ) (line refused more : ℕ) (given : List StreamLine) → Serves setting history lb ln gb gn old monitor gathered line refused → Reads old new ln ln' given → length given ≡ 1 → setting_of monitor' ≡ setting_of monitor → ((at : History) → Stands monitor at → Replied monitor monitor' given (line + 1) at gathered gathered' more) → Serves setting history lb ln' gb gn new monitor' gathered' (line + 1) (refused + more)
+pub serves_told : (setting : Setting) (history : History) (lb ln ln' gb gn : Option (List ℕ)) (old new : Reading) (monitor monitor' : Monitored) (gathered gathered' : List ℕ) (line refused more : ℕ) (given : List StreamLine) → Serves setting history lb ln gb gn old monitor gathered line refused → Reads old new ln ln' given → length given ≡ 1 → setting_of monitor' ≡ setting_of monitor → ((at : History) → Stands monitor at → Replied monitor monitor' given (line + 1) at gathered gathered' more) → Serves setting history lb ln' gb gn new monitor' gathered' (line + 1) (refused + more)
 serves_told setting history lb ln ln' gb gn old new monitor monitor' gathered gathered' line refused more given so_far reads one plan replies =
     let replied = replies so_far.after so_far.stands in
     let number : line + 1 ≡ 1 + length so_far.given = omega (arith, so_far.counted) in

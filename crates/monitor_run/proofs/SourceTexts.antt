@@ -7,21 +7,19 @@ use Rattle.edge_io.specs.Held.{Store, IsFetched}
 use Rattle.ontology_reader.specs.Texts.{text_says}
 use Rattle.tcq_reader.specs.Reading.{SaysQueries}
 use Rattle.monitor_run.specs.declared.ending.Ending.{Ending}
-use Rattle.monitor_run.specs.declared.ending.Ending.TheVariants.{Done, Usage, BadOntology, UnbuiltOntology, TooManyRewritings, BadQueries, UnbuiltQueries, ReadFault, WriteFault, Memory, StreamLimit}
-use Rattle.monitor_run.specs.Sources.{IsOntologyAtFault, AreQueriesAtFault, Sayings, RefusesRewriting}
+use Rattle.monitor_run.specs.declared.ending.Ending.TheVariants.{Done, Usage, BadOntology, TooManyRewritings, BadQueries, ReadFault, WriteFault, Memory, StreamLimit}
+use Rattle.monitor_run.specs.Sources.{IsOntologyAtFault, AreQueriesAtFault, Sayings, Refuses}
 use Rattle.monitor_run.proofs.Texts.{Fetched, fetched, same_ontology, queries_there, fault_there}
 
-pub ontology_fault : (held : Option Store) (before now : ℕ) (name queries bytes read : List ℕ) (ending : Ending) → IsFetched held name 4194304 bytes → read ≡ bytes → IsOntologyAtFault read ending → RefusesRewriting held before now name queries ending
+pub ontology_fault : (held : Option Store) (before now : ℕ) (name queries bytes read : List ℕ) (ending : Ending) → IsFetched held name 4194304 bytes → read ≡ bytes → IsOntologyAtFault read ending → Refuses held before now name queries ending
 ontology_fault held before now name queries bytes read (BadOntology line kind) is same fault =
     let file : Fetched held name bytes = fetched held name bytes is in
     record { text = file.text; has = file.has; fault = same_ontology file.text bytes file.cut ∙ subst (λ (t : List ℕ). text_says t ≡ Err (line, kind)) same fault }
 ontology_fault held before now name queries bytes read Memory is same fault = tt
 ontology_fault held before now name queries bytes read Done is same fault = fault
 ontology_fault held before now name queries bytes read Usage is same fault = fault
-ontology_fault held before now name queries bytes read UnbuiltOntology is same fault = fault
 ontology_fault held before now name queries bytes read TooManyRewritings is same fault = absurd fault
 ontology_fault held before now name queries bytes read (BadQueries line kind) is same fault = absurd fault
-ontology_fault held before now name queries bytes read UnbuiltQueries is same fault = fault
 ontology_fault held before now name queries bytes read ReadFault is same fault = absurd fault
 ontology_fault held before now name queries bytes read WriteFault is same fault = fault
 ontology_fault held before now name queries bytes read StreamLimit is same fault = fault
@@ -54,7 +52,7 @@ both_say held name queries ontology text said both says =
       queries_say = queries_there ontology other.text text said other.cut says;
     }
 
-pub queries_fault : (held : Option Store) (before now : ℕ) (name queries : List ℕ) (ontology : Declared) (text : List ℕ) (ending : Ending) → FetchedBoth held name queries ontology text → AreQueriesAtFault ontology text ending → RefusesRewriting held before now name queries ending
+pub queries_fault : (held : Option Store) (before now : ℕ) (name queries : List ℕ) (ontology : Declared) (text : List ℕ) (ending : Ending) → FetchedBoth held name queries ontology text → AreQueriesAtFault ontology text ending → Refuses held before now name queries ending
 queries_fault held before now name queries ontology text (BadQueries line kind) both fault =
     let one : Fetched held name both.ontology_bytes = fetched held name both.ontology_bytes both.ontology_fetched in
     let other : Fetched held queries text = fetched held queries text both.queries_fetched in
@@ -71,9 +69,7 @@ queries_fault held before now name queries ontology text Memory both fault = tt
 queries_fault held before now name queries ontology text Done both fault = fault
 queries_fault held before now name queries ontology text Usage both fault = fault
 queries_fault held before now name queries ontology text (BadOntology line kind) both fault = absurd fault
-queries_fault held before now name queries ontology text UnbuiltOntology both fault = fault
 queries_fault held before now name queries ontology text TooManyRewritings both fault = absurd fault
-queries_fault held before now name queries ontology text UnbuiltQueries both fault = fault
 queries_fault held before now name queries ontology text ReadFault both fault = absurd fault
 queries_fault held before now name queries ontology text WriteFault both fault = fault
 queries_fault held before now name queries ontology text StreamLimit both fault = fault

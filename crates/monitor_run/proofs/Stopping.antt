@@ -11,7 +11,7 @@ use Rattle.edge_io.specs.declared.line.ReadEnd.TheVariants as ends
 use Rattle.edge_io.specs.Reading.{given_by, outcome_of_line}
 use Rattle.edge_io.proofs.Readings.{Reads-none_before}
 use Rattle.edge_io.proofs.KnownLemmas.{Takes-none, Gains-none, Gains-trans}
-use Rattle.monitor_core.specs.declared.monitor.Monitor.{Monitor}
+use Rattle.monitor_core.specs.Keeping.{Monitored}
 use Rattle.monitor_core.specs.Setting.{Setting}
 use Rattle.report_text.specs.declared.item.Item.{Item}
 use Rattle.report_text.specs.declared.item.Item.TheVariants as item
@@ -19,7 +19,7 @@ use Rattle.monitor_core.specs.Standing.{count_of}
 use Rattle.monitor_run.specs.Told.{Told}
 use Rattle.monitor_core.specs.Standing.{setting_of, Stands}
 use Rattle.monitor_run.specs.declared.ending.Ending.{Ending}
-use Rattle.monitor_run.specs.declared.ending.Ending.TheVariants.{Done, Usage, BadOntology, UnbuiltOntology, TooManyRewritings, BadQueries, UnbuiltQueries, ReadFault, WriteFault, Memory, StreamLimit}
+use Rattle.monitor_run.specs.declared.ending.Ending.TheVariants.{Done, Usage, BadOntology, TooManyRewritings, BadQueries, ReadFault, WriteFault, Memory, StreamLimit}
 use Rattle.monitor_run.specs.Ends.{ending_of, IsFinished, Finishes}
 use Rattle.monitor_run.specs.Report.{text_of, bytes_of_item, end_item, Report, Part}
 use Rattle.monitor_run.specs.Watching.{BeginsReport, IsCutShort, Wrote, Watched}
@@ -64,7 +64,7 @@ cut_short setting history after lb ln reading given more told wrote took tells b
       })
     ] refl
 
-module _ (setting : Setting) (history : History) (lb ln gb gn : Option (List ℕ)) (reading : Reading) (monitor : Monitor) (gathered : List ℕ) (line refused : ℕ) (so_far : Serves setting history lb ln gb gn reading monitor gathered line refused) where
+module _ (setting : Setting) (history : History) (lb ln gb gn : Option (List ℕ)) (reading : Reading) (monitor : Monitored) (gathered : List ℕ) (line refused : ℕ) (so_far : Serves setting history lb ln gb gn reading monitor gathered line refused) where
   same_took : Took lb ln reading (so_far.given ++ [])
   same_took = subst (λ l. Took lb ln reading l) (sym (append-nil so_far.given)) so_far.took
 
@@ -145,10 +145,8 @@ module _ (setting : Setting) (history : History) (lb ln gb gn : Option (List ℕ
   ends_by Done at_end taken wrote end ended within report is = (ended, within, record { told = report.told; after = report.after; tells = report.tells; is = ap (λ l. so_far.wrote ++ l) is ∙ report.is })
   ends_by Usage at_end taken wrote end ended within report is = is
   ends_by (BadOntology line kind) at_end taken wrote end ended within report is = is
-  ends_by UnbuiltOntology at_end taken wrote end ended within report is = is
   ends_by TooManyRewritings at_end taken wrote end ended within report is = is
   ends_by (BadQueries line kind) at_end taken wrote end ended within report is = is
-  ends_by UnbuiltQueries at_end taken wrote end ended within report is = is
   ends_by ReadFault at_end taken wrote end ended within report is = absurd is
   ends_by WriteFault at_end taken wrote end ended within report is = inr (ended, inr (begins_by taken wrote end report is))
   ends_by Memory at_end taken wrote end ended within report is = inr (ended, inr (begins_by taken wrote end report is))

@@ -18,7 +18,7 @@ use Rattle.report_text.specs.declared.item.Cause.{Cause}
 use Rattle.report_text.specs.declared.item.Cause.TheVariants.{TooLong, Malformed, Unknown, WrongKind, Undeclared, TooManyFacts, Contradiction}
 use Rattle.report_text.specs.declared.item.Item.{Item}
 use Rattle.report_text.specs.declared.item.Item.TheVariants.{Accepted}
-use Rattle.monitor_core.specs.Clashes.{IsLeastClash, IsConsistentUnder}
+use Rattle.consistency.specs.Least.{IsLeastClash, IsConsistentUnder}
 use Rattle.monitor_core.specs.Setting.{Setting}
 use Rattle.monitor_core.specs.Standing.{count_of}
 use Rattle.monitor_run.specs.Outcome.{Outcome, skip, refused, accepted, SnapshotHas, SaidHas}

@@ -11,7 +11,7 @@ use Rattle.edge_io.specs.Known.{Gains, IsFront}
 use Rattle.monitor_run.specs.declared.ending.Status.{Status}
 use Rattle.monitor_run.specs.declared.ending.Status.TheVariants as status
 use Rattle.monitor_run.specs.declared.ending.Ending.{Ending}
-use Rattle.monitor_run.specs.declared.ending.Ending.TheVariants.{Done, Usage, BadOntology, UnbuiltOntology, TooManyRewritings, BadQueries, UnbuiltQueries, ReadFault, WriteFault, Memory, StreamLimit}
+use Rattle.monitor_run.specs.declared.ending.Ending.TheVariants.{Done, Usage, BadOntology, TooManyRewritings, BadQueries, ReadFault, WriteFault, Memory, StreamLimit}
 
 abbrev pub ending_of : ReadEnd → Ending
 ending_of ends.ReadFault = ReadFault
@@ -21,10 +21,8 @@ abbrev pub status_of : Ending → Status
 status_of Done = status.Done
 status_of Usage = status.Usage
 status_of (BadOntology line kind) = status.BadOntology
-status_of UnbuiltOntology = status.BadOntology
 status_of TooManyRewritings = status.BadOntology
 status_of (BadQueries line kind) = status.BadQueries
-status_of UnbuiltQueries = status.BadQueries
 status_of ReadFault = status.ReadFault
 status_of WriteFault = status.WriteFault
 status_of Memory = status.Memory
@@ -53,10 +51,8 @@ abbrev pub message_of : Ending → List ℕ
 message_of Done = []
 message_of Usage = codes "tom: usage"
 message_of (BadOntology line kind) = codes "tom: ontology line " ++ decimal line ++ codes ": " ++ kind_text kind
-message_of UnbuiltOntology = codes "tom: ontology: unbuilt"
 message_of TooManyRewritings = codes "tom: ontology: too-many-rewritings"
 message_of (BadQueries line kind) = codes "tom: queries line " ++ decimal line ++ codes ": " ++ query_kind_text kind
-message_of UnbuiltQueries = codes "tom: queries: unbuilt"
 message_of ReadFault = codes "tom: read fault"
 message_of WriteFault = codes "tom: write fault"
 message_of Memory = codes "tom: out of memory"

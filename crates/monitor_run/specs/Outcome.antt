@@ -8,7 +8,7 @@ use Rattle.snapshot_reader.specs.Said.{Cause as SaidCause, is_malformed, unknown
 use Rattle.snapshot_reader.specs.Said.{refused as is_refused}
 use Rattle.report_text.specs.declared.item.Cause.{Cause}
 use Rattle.report_text.specs.declared.item.Cause.TheVariants.{TooLong, Malformed, Unknown, WrongKind, Undeclared, TooManyFacts, Contradiction}
-use Rattle.monitor_core.specs.Clashes.{IsLeastClash, IsConsistentUnder}
+use Rattle.consistency.specs.Least.{IsLeastClash, IsConsistentUnder}
 
 pub data Outcome : Type 0 where
   skip : Outcome

@@ -8,7 +8,7 @@ use Rattle.report_text.specs.declared.item.Item.{Item}
 use Rattle.report_text.specs.declared.item.Item.TheVariants as item
 use Rattle.report_text.specs.Lines.{answers_text, query_name}
 use Rattle.snapshot_reader.specs.Said.{Said, nothing, refused, says}
-use Rattle.monitor_core.specs.declared.monitor.Monitor.{Monitor}
+use Rattle.monitor_core.specs.Keeping.{Monitored}
 use Rattle.monitor_core.specs.Answering.{AreRowsOf}
 use Rattle.monitor_core.specs.Setting.{Setting}
 use Rattle.monitor_core.specs.Standing.{setting_of, Stands}
@@ -47,7 +47,7 @@ IsRefusedFor (refused c) cause = cause ≡ cause_of c
 IsRefusedFor (says snapshot) cause = ⊥
 
 -- a monitor that stood for the history gave this reply to the line
-pub record AcceptsLine (old new : Monitor) (line : StreamLine) (reply : Reply) (history : History) : Type 0 where
+pub record AcceptsLine (old new : Monitored) (line : StreamLine) (reply : Reply) (history : History) : Type 0 where
   pub after : History
   pub stands : Stands new after
   pub tells : (number : ℕ) → TellsLine (setting_of old) history number line (told_by number reply) after

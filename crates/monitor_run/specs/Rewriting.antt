@@ -9,7 +9,7 @@ use Rattle.monitor_run.specs.declared.ending.Ending.TheVariants.{Done, WriteFaul
 use Rattle.monitor_run.specs.Ends.{Finishes}
 use Rattle.monitor_run.specs.Leaves.{IsRewriting}
 use Rattle.monitor_run.specs.Reaching.{AreTooMany}
-use Rattle.monitor_run.specs.Sources.{Sayings, RefusesRewriting}
+use Rattle.monitor_run.specs.Sources.{Sayings, Refuses}
 
 -- both files were read, they reach no more than may be, and the text of their rewritings was written, or a beginning of it
 pub record Rewrote (ending : Ending) (ontology queries : List ℕ) (held : Option Store) (got_before got_now : Option (List ℕ)) : Type 0 where
@@ -22,7 +22,7 @@ pub record Rewrote (ending : Ending) (ontology queries : List ℕ) (held : Optio
 
 -- there is no rewriting, and nothing was written
 pub record RefusedFor (ending : Ending) (ontology queries : List ℕ) (held : Option Store) (file_faults_before file_faults_now : ℕ) (got_before got_now : Option (List ℕ)) : Type 0 where
-  pub refuses : RefusesRewriting held file_faults_before file_faults_now ontology queries ending
+  pub refuses : Refuses held file_faults_before file_faults_now ontology queries ending
   pub unwritten : got_now ≡ got_before
 
 -- how a rewriting of the files of these names ended

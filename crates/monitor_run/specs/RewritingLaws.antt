@@ -8,7 +8,8 @@ use Rattle.monitor_run.specs.declared.ending.Status.{Status}
 use Rattle.monitor_run.specs.declared.ending.Status.TheVariants.{Done, Memory}
 use Rattle.monitor_run.specs.Leaves.{IsRewriting}
 use Rattle.monitor_run.specs.Reaching.{AreTooMany}
-use Rattle.monitor_run.specs.Sources.{AreRewrite, Sayings}
+use Rattle.monitor_run.specs.Sources.{AreRewrite}
+use Rattle.monitor_run.specs.Laws.{HasGoodFiles}
 use Rattle.monitor_run.specs.Running.{Outside, Ran}
 
 -- the rewritings of the same queries are one text
@@ -20,13 +21,7 @@ pub record IsGoodRewriting (words : List (List ℕ)) (before now : Outside) : Ty
   pub ontology_name : List ℕ
   pub queries_name : List ℕ
   pub words_are : AreRewrite words ontology_name queries_name
-  pub files : Store
-  pub held : before.held ≡ Some files
-  pub setting : Setting
-  pub say : Sayings before.held ontology_name queries_name setting
-  pub few : ¬ AreTooMany setting
-  pub no_file_fault : ¬ Rose before.file_faults now.file_faults
-  pub no_write_fault : ¬ Rose before.write_faults now.write_faults
+  pub files : HasGoodFiles ontology_name queries_name before now
 
 -- where nothing fails a rewriting is done, but for want of memory
 abbrev pub RewritingCompleteness : Type 0

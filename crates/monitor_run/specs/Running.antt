@@ -8,11 +8,11 @@ use Rattle.monitor_core.specs.Setting.{Setting}
 use Rattle.monitor_core.specs.Standing.{no_history}
 use Rattle.monitor_run.specs.declared.ending.Status.{Status}
 use Rattle.monitor_run.specs.declared.ending.Ending.{Ending}
-use Rattle.monitor_run.specs.declared.ending.Ending.TheVariants.{Done, Usage, BadOntology, UnbuiltOntology, TooManyRewritings, BadQueries, UnbuiltQueries, ReadFault, WriteFault, Memory, StreamLimit}
+use Rattle.monitor_run.specs.declared.ending.Ending.TheVariants.{Done, Usage, BadOntology, TooManyRewritings, BadQueries, ReadFault, WriteFault, Memory, StreamLimit}
 use Rattle.monitor_run.specs.Ends.{status_of, line_of}
-use Rattle.monitor_run.specs.Opening.{AreWatch, IsWatch, Opens, Refuses}
+use Rattle.monitor_run.specs.Opening.{AreWatch, IsWatch}
 use Rattle.monitor_run.specs.Watching.{Watched}
-use Rattle.monitor_run.specs.Sources.{AreRewrite, IsRewrite}
+use Rattle.monitor_run.specs.Sources.{AreRewrite, IsRewrite, Opens, Refuses}
 use Rattle.monitor_run.specs.Rewriting.{RewriteEnds}
 
 -- what files, input and output tell, and their counts of faults
@@ -45,10 +45,8 @@ abbrev pub FilesEnd : Ending → List ℕ → List ℕ → Outside → Outside �
 FilesEnd Done ontology queries before now = WatchedFiles Done ontology queries before now
 FilesEnd Usage ontology queries before now = ⊥
 FilesEnd (BadOntology line kind) ontology queries before now = RefusedFiles (BadOntology line kind) ontology queries before now
-FilesEnd UnbuiltOntology ontology queries before now = RefusedFiles UnbuiltOntology ontology queries before now
-FilesEnd TooManyRewritings ontology queries before now = ⊥
+FilesEnd TooManyRewritings ontology queries before now = RefusedFiles TooManyRewritings ontology queries before now
 FilesEnd (BadQueries line kind) ontology queries before now = RefusedFiles (BadQueries line kind) ontology queries before now
-FilesEnd UnbuiltQueries ontology queries before now = RefusedFiles UnbuiltQueries ontology queries before now
 FilesEnd ReadFault ontology queries before now = RefusedFiles ReadFault ontology queries before now ⊎ (Rose before.read_faults now.read_faults × WatchedFiles ReadFault ontology queries before now)
 FilesEnd WriteFault ontology queries before now = Rose before.write_faults now.write_faults × WatchedFiles WriteFault ontology queries before now
 FilesEnd Memory ontology queries before now = IsUntouched before now ⊎ WatchedFiles Memory ontology queries before now

@@ -6,20 +6,20 @@ use Rattle.edge_io.specs.Known.{Takes, Gains, IsAtEnd}
 use Rattle.edge_io.specs.Lines.{Item as StreamLine, Gives}
 use Rattle.edge_io.specs.Reading.{Reading}
 use Rattle.report_text.specs.declared.item.Item.{Item}
-use Rattle.monitor_core.specs.declared.monitor.Monitor.{Monitor}
+use Rattle.monitor_core.specs.Keeping.{Monitored}
 use Rattle.monitor_core.specs.Setting.{Setting}
 use Rattle.monitor_core.specs.Standing.{setting_of, Stands}
 use Rattle.monitor_run.specs.Told.{Told}
 use Rattle.monitor_run.specs.Report.{text_of, bytes_of, refused_in}
 
 -- the monitor went on from the history over these lines, of which this is told
-pub record Asked (old new : Monitor) (lines : List StreamLine) (number : ℕ) (history : History) (told : List Item) : Type 0 where
+pub record Asked (old new : Monitored) (lines : List StreamLine) (number : ℕ) (history : History) (told : List Item) : Type 0 where
   pub after : History
   pub stands : Stands new after
   pub tells : Told (setting_of old) lines number history told after
 
 -- and what is told was gathered behind the buffer's bytes
-pub record Replied (old new : Monitor) (lines : List StreamLine) (number : ℕ) (history : History) (before now : List ℕ) (refused : ℕ) : Type 0 where
+pub record Replied (old new : Monitored) (lines : List StreamLine) (number : ℕ) (history : History) (before now : List ℕ) (refused : ℕ) : Type 0 where
   pub told : List Item
   pub asked : Asked old new lines number history told
   pub gathers : now ≡ before ++ bytes_of (setting_of old) told
@@ -35,7 +35,7 @@ pub record Took (left_before left_now : Option (List ℕ)) (reading : Reading) (
   pub lines : Gives reading.is_ended taken given reading.pending
 
 -- the lines that the reader gave are told; what is told is written, but for what is gathered
-pub record Serves (setting : Setting) (history : History) (left_before left_now got_before got_now : Option (List ℕ)) (reading : Reading) (monitor : Monitor) (gathered : List ℕ) (line refused : ℕ) : Type 0 where
+pub record Serves (setting : Setting) (history : History) (left_before left_now got_before got_now : Option (List ℕ)) (reading : Reading) (monitor : Monitored) (gathered : List ℕ) (line refused : ℕ) : Type 0 where
   pub given : List StreamLine
   pub took : Took left_before left_now reading given
   pub counted : line ≡ length given

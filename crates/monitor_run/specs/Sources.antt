@@ -8,6 +8,8 @@ use Rattle.ontology_reader.specs.Texts.{text_says}
 use Rattle.tcq_reader.specs.declared.faults.QueryKind.{QueryKind}
 use Rattle.tcq_reader.specs.Reading.{SaysQueries, IsFault}
 use Rattle.monitor_core.specs.Setting.{Setting}
+use Rattle.monitor_core.specs.Keeping.{Monitored}
+use Rattle.monitor_core.specs.Standing.{Stands, setting_of, no_history}
 use Rattle.monitor_run.specs.declared.ending.Ending.{Ending}
 use Rattle.monitor_run.specs.declared.ending.Ending.TheVariants.{BadOntology, TooManyRewritings, BadQueries, ReadFault, Memory}
 use Rattle.monitor_run.specs.Opening.{IsFileWord, HasText}
@@ -23,6 +25,12 @@ pub record AreRewrite (words : List (List ℕ)) (ontology queries : List ℕ) : 
   pub command : List ℕ
   pub words_are : words ≡ command ∷ ontology ∷ queries ∷ []
   pub rewrite : IsRewrite command ontology queries
+
+-- a fetch of this name failed
+abbrev pub IsFetchRefused : Option Store → ℕ → ℕ → List ℕ → Ending → Type 0
+IsFetchRefused held before now name ReadFault = Rose before now ⊎ Lacks held name
+IsFetchRefused held before now name Memory = Unit {0}
+IsFetchRefused held before now name _ = ⊥
 
 -- the run ends at a fault of the ontology's text
 abbrev pub IsOntologyAtFault : List ℕ → Ending → Type 0
@@ -67,11 +75,27 @@ pub record HasTooMany (held : Option Store) (ontology_name queries_name : List �
   pub say : Sayings held ontology_name queries_name setting
   pub many : AreTooMany setting
 
--- why there is no rewriting, by the first failure
-abbrev pub RefusesRewriting : Option Store → ℕ → ℕ → List ℕ → List ℕ → Ending → Type 0
-RefusesRewriting held before now ontology queries (BadOntology line kind) = HasOntologyFault held ontology line kind
-RefusesRewriting held before now ontology queries TooManyRewritings = HasTooMany held ontology queries
-RefusesRewriting held before now ontology queries (BadQueries line kind) = HasQueriesFault held ontology queries line kind
-RefusesRewriting held before now ontology queries ReadFault = Rose before now ⊎ Lacks held ontology ⊎ Lacks held queries
-RefusesRewriting held before now ontology queries Memory = Unit {0}
-RefusesRewriting held before now ontology queries _ = ⊥
+-- why the files can't be used, by the first failure
+abbrev pub Refuses : Option Store → ℕ → ℕ → List ℕ → List ℕ → Ending → Type 0
+Refuses held before now ontology queries (BadOntology line kind) = HasOntologyFault held ontology line kind
+Refuses held before now ontology queries TooManyRewritings = HasTooMany held ontology queries
+Refuses held before now ontology queries (BadQueries line kind) = HasQueriesFault held ontology queries line kind
+Refuses held before now ontology queries ReadFault = Rose before now ⊎ Lacks held ontology ⊎ Lacks held queries
+Refuses held before now ontology queries Memory = Unit {0}
+Refuses held before now ontology queries _ = ⊥
+
+-- both texts have no fault, and what they say reaches no more queries than may be
+pub record Opens (held : Option Store) (ontology_name queries_name : List ℕ) (setting : Setting) : Type 0 where
+  pub say : Sayings held ontology_name queries_name setting
+  pub few : ¬ AreTooMany setting
+
+-- what is said reaches too many queries, or there is no memory
+abbrev pub IsOpeningRefused : Setting → Ending → Type 0
+IsOpeningRefused setting TooManyRewritings = AreTooMany setting
+IsOpeningRefused setting Memory = Unit {0}
+IsOpeningRefused setting _ = ⊥
+
+-- the monitor is the one of these files, before any snapshot
+pub record Opened (held : Option Store) (ontology_name queries_name : List ℕ) (monitor : Monitored) : Type 0 where
+  pub opens : Opens held ontology_name queries_name (setting_of monitor)
+  pub stands : Stands monitor no_history

@@ -20,13 +20,9 @@ pub enum Ending {
     Done,
     Usage,
     BadOntology(u64, OntologyKind),
-    /// The ontology has an inclusion or a clash.
-    UnbuiltOntology,
     /// The leaves and the clashes reach too many queries.
     TooManyRewritings,
     BadQueries(u64, QueryKind),
-    /// The queries aren't one that asks for the instances of a concept.
-    UnbuiltQueries,
     ReadFault,
     WriteFault,
     Memory,

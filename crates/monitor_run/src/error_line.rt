@@ -96,10 +96,8 @@ pub fn error_line(ending: Ending) -> ArrayVec<u8, 256>
         Ending::Done => {}
         Ending::Usage => put(&mut line, b"tom: usage\n"),
         Ending::BadOntology(number, kind) => put_fault(&mut line, number, kind),
-        Ending::UnbuiltOntology => put(&mut line, b"tom: ontology: unbuilt\n"),
         Ending::TooManyRewritings => put(&mut line, b"tom: ontology: too-many-rewritings\n"),
         Ending::BadQueries(number, kind) => put_query_fault(&mut line, number, kind),
-        Ending::UnbuiltQueries => put(&mut line, b"tom: queries: unbuilt\n"),
         Ending::ReadFault => put(&mut line, b"tom: read fault\n"),
         Ending::WriteFault => put(&mut line, b"tom: write fault\n"),
         Ending::Memory => put(&mut line, b"tom: out of memory\n"),

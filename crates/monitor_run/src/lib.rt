@@ -1,7 +1,6 @@
 //! The top call: it watches a stream and writes a report, or writes the rewritings of queries.
 #![tactic(auto)]
 
-mod answerable;
 mod command;
 mod ending;
 mod error_line;

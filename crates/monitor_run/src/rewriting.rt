@@ -17,7 +17,7 @@ use std::alloc::Global;
 use tcq_syntax::{Node, Query};
 
 /// The most queries that leaves and clashes may reach.
-const REWRITING_LIMIT: u32 = 1_048_576;
+pub(crate) const REWRITING_LIMIT: u32 = 1_048_576;
 
 /// An ontology, and what rewriting needs of it.
 #[derive(Clone, Copy)]

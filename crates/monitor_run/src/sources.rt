@@ -1,13 +1,13 @@
 // The ontology and the queries of the files that the words name, whatever they say.
-ghost use Rattle.std.specs.Prelude.{◌≡◌, Ok, IfOk, IfErr, MatchResult};
+ghost use Rattle.std.specs.Prelude.{◌≡◌, ◌≤◌, Ok, IfOk, IfErr, MatchResult};
+ghost use Rattle.edge_io.specs.Held.{IsFetched};
 ghost use Rattle.ontology_reader.specs.Texts.{text_says};
 ghost use Rattle.tcq_reader.specs.Reading.{SaysQueries};
-ghost use Rattle.monitor_run.specs.Sources.{IsOntologyAtFault, AreQueriesAtFault, Sayings, RefusesRewriting};
+ghost use Rattle.monitor_run.specs.Sources.{IsOntologyAtFault, AreQueriesAtFault, IsFetchRefused, Sayings, Refuses};
 
 use crate::ending::Ending;
-use crate::opening::fetch;
 use dl_syntax::Ontology;
-use edge_io::Files;
+use edge_io::{FetchFault, Files};
 use ontology_reader::{OntologyFault, read_ontology};
 use std::alloc::Global;
 use tcq_reader::{QueryFault, read_queries};
@@ -18,6 +18,23 @@ use tcq_syntax::Query;
 pub struct Sources {
     pub ontology: Ontology,
     pub queries: Vec<Query>,
+}
+
+/// How many bytes of a file are fetched, but for one.
+const TEXT_LIMIT: u64 = 4_194_304;
+
+/// The first bytes of the file of this name.
+fn fetch<F: Files>(alloc: Global, files: &mut F, name: &str) -> Result<Vec<u8>, Ending>
+    ensures bytes { IfOk result (λ bytes. IsFetched (F.held files.old) name.now 4194304 bytes.items) }
+    ensures refused { IfErr result (λ ending. IsFetchRefused (F.held files.old) (F.faults files.old) (F.faults files.new) name.now ending) }
+    ensures held { F.held files.new ≡ F.held files.old }
+    ensures later { F.faults files.old ≤ F.faults files.new }
+{
+    match files.fetch(alloc, name, TEXT_LIMIT) {
+        Ok(bytes) => Ok(bytes),
+        Err(FetchFault::Failed) => Err(Ending::ReadFault),
+        Err(FetchFault::Memory) => Err(Ending::Memory),
+    }
 }
 
 /// The ontology of the text, or how the run ends.
@@ -50,7 +67,7 @@ pub fn read_sources<F: Files>(
     queries: &str,
 ) -> Result<Sources, Ending>
     ensures say { IfOk result (λ sources. Sayings (F.held files.old) ontology.now queries.now (record { ontology = sources.ontology; queries = sources.queries.items })) }
-    ensures refuses { IfErr result (λ ending. RefusesRewriting (F.held files.old) (F.faults files.old) (F.faults files.new) ontology.now queries.now ending) }
+    ensures refuses { IfErr result (λ ending. Refuses (F.held files.old) (F.faults files.old) (F.faults files.new) ontology.now queries.now ending) }
     ensures held { F.held files.new ≡ F.held files.old }
 {
     let text = match fetch(alloc, files, ontology) {

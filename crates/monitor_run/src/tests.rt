@@ -1,5 +1,6 @@
 ghost use Rattle.std.specs.Prelude.{◌≤◌};
 
+mod following;
 mod queries;
 mod rewriting;
 
@@ -19,11 +20,6 @@ fn files_of(alloc: Global, ontology: &[u8], queries: &[u8]) -> Result<MemFiles, 
     files.push((String::from_str(alloc, "O")?, ontology.to_vec(alloc)?))?;
     files.push((String::from_str(alloc, "Q")?, queries.to_vec(alloc)?))?;
     Ok(MemFiles::new(files, Vec::new(alloc)))
-}
-
-/// The files O and Q, of which O has this text.
-fn files(alloc: Global, ontology: &[u8]) -> Result<MemFiles, Fail> {
-    files_of(alloc, ontology, QUERIES)
 }
 
 /// This command with O and Q.
@@ -52,7 +48,7 @@ fn watched(
     requires read { 1 ≤ step }
     requires write { 1 ≤ write_step }
 {
-    let mut files = files(alloc, ONTOLOGY)?;
+    let mut files = files_of(alloc, ONTOLOGY, QUERIES)?;
     let mut input = MemSource::new(stream.to_vec(alloc)?, step, reads.to_vec(alloc)?);
     let mut out = MemSink::new(alloc, 1024, write_step, writes.to_vec(alloc)?)?;
     let mut err = MemSink::new(alloc, 256, 256, Vec::new(alloc))?;
@@ -100,20 +96,5 @@ fn faults_leave_what_was_told(rt: HostRuntime) -> Result<(), Fail> {
         report.as_slice(),
         b"line 1 accepted 1\nanswer f s1\n".as_slice()
     );
-    Ok(())
-}
-
-#[test]
-fn inclusions_are_unbuilt(rt: HostRuntime) -> Result<(), Fail> {
-    let alloc = rt.alloc();
-    let mut files = files(alloc, b"concept A\nrole r\nsub A some r\n")?;
-    let mut input = MemSource::new(Vec::new(alloc), 1, Vec::new(alloc));
-    let mut out = MemSink::new(alloc, 64, 64, Vec::new(alloc))?;
-    let mut err = MemSink::new(alloc, 64, 64, Vec::new(alloc))?;
-    let words = words(alloc)?;
-    let status = run(alloc, &words, &mut files, &mut input, &mut out, &mut err);
-    assert_eq!(rt; status, Status::BadOntology);
-    assert_eq!(rt; out.bytes(), b"".as_slice());
-    assert_eq!(rt; err.bytes(), b"tom: ontology: unbuilt\n".as_slice());
     Ok(())
 }

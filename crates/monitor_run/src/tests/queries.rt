@@ -19,7 +19,7 @@ fn opened(alloc: Global, queries: &[u8]) -> Result<(Status, Vec<u8>), Fail> {
 #[test]
 fn queries_are_refused(rt: HostRuntime) -> Result<(), Fail> {
     let alloc = rt.alloc();
-    let table: [(&[u8], &[u8]); 6] = [
+    let table: [(&[u8], &[u8]); 4] = [
         (
             b"query f (?x) = [runs(?x)] ;",
             b"tom: queries line 1: wrong-kind\n",
@@ -36,11 +36,6 @@ fn queries_are_refused(rt: HostRuntime) -> Result<(), Fail> {
             b"query f (?x) = [Failed(?x)] ;\nquery f () = true ;\n",
             b"tom: queries line 2: name-twice\n",
         ),
-        (
-            b"query f (?x) = next [Failed(?x)] ;",
-            b"tom: queries: unbuilt\n",
-        ),
-        (b"", b"tom: queries: unbuilt\n"),
     ];
     for (queries, wanted) in table {
         let (status, said) = opened(alloc, queries)?;

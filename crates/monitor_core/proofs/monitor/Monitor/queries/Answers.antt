@@ -1,6 +1,8 @@
+use Rattle.std.proofs.Common.{◌∙◌, ap}
+use Rattle.monitor_core.specs.Keeping.{Monitored}
 use Rattle.monitor_core.specs.Standing.{setting_of}
 use Rattle.monitor_core.proofs.monitor.Monitor.queries.Goals as goal
 
 pub returns : goal.returns
 unfolding setting_of
-returns c = c.from_ref.ensures.value
+returns c = c.as_slice.ensures.value ∙ ap (λ (m : Monitored). (setting_of m).queries) c.self.view_is

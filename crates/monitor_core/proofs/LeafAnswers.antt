@@ -1,0 +1,98 @@
+-- The answers of the cores of leaves are the certain answers of the leaves.
+use Rattle.std.proofs.Common.{◌≡◌, ℕ, suc, ◌<◌, ◌≤◌, List, [], ◌∷◌, length, refl, sym, ◌∙◌, ap, subst, arith}
+use Rattle.std.specs.Prelude.{◌↔◌, Some, slice_get}
+use Rattle.std.specs.List.{All, AllZip, Contains}
+use Rattle.std.proofs.lemmas.List.Elements.{All-nil, All-cons, All-head, All-tail, All-weaker, All-contains}
+use Rattle.dl_syntax.specs.declared.names.IndId.{IndId}
+use Rattle.dl_syntax.specs.declared.facts.Fact.{Fact}
+use Rattle.dl_syntax.specs.declared.ontology.Inclusion.{Inclusion}
+use Rattle.dl_syntax.specs.declared.queries.Cq.{Cq}
+use Rattle.dl_syntax.specs.Queries.{IsQuery}
+use Rattle.dl_syntax.specs.Ontology.{Declared}
+use Rattle.dl_syntax.specs.declared.facts.Element.{Element}
+use Rattle.dl_syntax.specs.declared.facts.Element.TheVariants.{Ind as ind_element}
+use Rattle.dl_syntax.specs.Match.{Certain, term_at}
+use Rattle.std.proofs.lemmas.List.{length-map}
+use Rattle.dl_syntax.proofs.AllByCons.{All-from_contains}
+use Rattle.progression.specs.Tables.{IsOverLeaf}
+use Rattle.dl_syntax.specs.Rows.{Relation}
+use Rattle.query_unify.specs.Reach.{go, replace}
+use Rattle.query_unify.specs.Saturation.{IsCore, begin, made}
+use Rattle.query_unify.proofs.Bound.{IsQuery-normalise}
+use Rattle.query_unify.proofs.Shorter.{normalise-short}
+use Rattle.perfect_ref.specs.Plain.{Encoded, encoded, PlainCore, Lists}
+use Rattle.perfect_ref.specs.Laws.{IsOverOntology, IsQueryOver, IsSaturated, SomeGives}
+use Rattle.perfect_ref.proofs.Answering.{Steps-query, answers_of_core}
+use Rattle.ucq_join.specs.Answers.{IsUnionAnswer}
+use Rattle.progression.specs.Kept.{AreCertain}
+use Rattle.monitor_core.specs.declared.plan.Leaf.{Leaf}
+use Rattle.monitor_core.specs.Planning.{IsAskable, IsLeafOf}
+use Rattle.monitor_core.specs.Leaves.{AsksWell, AreUnionAnswers}
+
+-- the core holds queries within the limits, with heads as long
+core_query : (inclusions : List Inclusion) (q member : Cq) → IsQuery q → IsCore inclusions q member → IsQuery member × (length member.head ≡ length q.head)
+core_query inclusions q member is (begin same) = (subst IsQuery (sym same) (IsQuery-normalise q is), ap (λ (z : Cq). length z.head) same ∙ (normalise-short q).1)
+core_query inclusions q member is (made before i place reached there nulls r) = Steps-query inclusions q member is (go reached (replace i place there r))
+
+leaf_asks_well : (e : Encoded) (q : Cq) (leaf : Leaf) → IsQuery q → IsLeafOf e q leaf → AsksWell leaf
+leaf_asks_well e q leaf query is = record {
+  queries = All-weaker (PlainCore e q) IsQuery (λ y h. (core_query e.inclusions q y query h.0).0) leaf.core.items is.core.sound;
+  heads = All-weaker (PlainCore e q) (λ (y : Cq). length y.head ≡ leaf.arity) (λ y h. (core_query e.inclusions q y query h.0).1 ∙ sym is.arity) leaf.core.items is.core.sound;
+}
+
+pub all_ask_well : (e : Encoded) (qs : List Cq) (leaves : List Leaf) → All IsQuery qs → AllZip (IsLeafOf e) qs leaves → All AsksWell leaves
+all_ask_well e [] [] queries are = All-nil AsksWell
+all_ask_well e [] (leaf ∷ leaves) queries are = absurd are
+all_ask_well e (q ∷ qs) [] queries are = absurd are
+all_ask_well e (q ∷ qs) (leaf ∷ leaves) queries are =
+    All-cons AsksWell leaf leaves (leaf_asks_well e q leaf (All-head IsQuery q qs queries) are.0) (all_ask_well e qs leaves (All-tail IsQuery q qs queries) are.1)
+
+module _ (o : Declared) (snapshot facts : List Fact) (over : IsOverOntology o snapshot) (saturated : IsSaturated o snapshot facts) where
+  union_gives : (union : List Cq) (row : List IndId) → IsUnionAnswer facts union row ↔ SomeGives (Contains union) facts row
+  union_gives union row = (
+    λ (q, there, answer). (q, there, record { assignment = answer.assignment; match = answer.match; head = answer.head }),
+    λ (q, there, given). (q, there, record { assignment = given.assignment; match = given.match; head = given.head }),
+  )
+
+  leaf_certain : (q : Cq) (leaf : Leaf) (relation : Relation) → IsQueryOver o q → IsLeafOf (encoded o) q leaf → AreUnionAnswers facts leaf relation → AreCertain o.inclusions snapshot q relation
+  leaf_certain q leaf relation declared is answers row =
+      let exact : SomeGives (Contains leaf.core.items) facts row ↔ Certain o.inclusions q snapshot row = answers_of_core o q leaf.core.items declared is.core snapshot facts row over saturated in
+      let rows : Contains relation.rows row ↔ IsUnionAnswer facts leaf.core.items row = answers.rows row in (
+        λ h. exact.0 ((union_gives leaf.core.items row).0 (rows.0 h)),
+        λ h. rows.1 ((union_gives leaf.core.items row).1 (exact.1 h)),
+      )
+
+  pub leaves_certain : (qs : List Cq) (leaves : List Leaf) (relations : List Relation) → All (IsQueryOver o) qs → AllZip (IsLeafOf (encoded o)) qs leaves → AllZip (AreUnionAnswers facts) leaves relations → AllZip (AreCertain o.inclusions snapshot) qs relations
+  leaves_certain [] [] [] declared are answers = tt
+  leaves_certain [] [] (r ∷ rs) declared are answers = absurd answers
+  leaves_certain [] (leaf ∷ leaves) rs declared are answers = absurd are
+  leaves_certain (q ∷ qs) [] rs declared are answers = absurd are
+  leaves_certain (q ∷ qs) (leaf ∷ leaves) [] declared are answers = absurd answers
+  leaves_certain (q ∷ qs) (leaf ∷ leaves) (r ∷ rs) declared are answers = (
+    leaf_certain q leaf r (All-head (IsQueryOver o) q qs declared) are.0 answers.0,
+    leaves_certain qs leaves rs (All-tail (IsQueryOver o) q qs declared) are.1 answers.1,
+  )
+
+-- a match sends the head to as many individuals as it has terms
+answer_length : (facts : List Fact) (leaf : Leaf) (row : List IndId) → AsksWell leaf → IsUnionAnswer facts leaf.core.items row → length row ≡ leaf.arity
+answer_length facts leaf row asks (q, there, answer) =
+    let heads : length q.head ≡ leaf.arity = All-contains (λ (y : Cq). length y.head ≡ leaf.arity) leaf.core.items q asks.heads there in
+    sym (length-map row (λ (i : IndId). let e : Element = ind_element i in e)) ∙ (sym (ap length answer.head) ∙ (length-map q.head (term_at answer.assignment) ∙ heads))
+
+leaf_over : (facts : List Fact) (q : Cq) (leaf : Leaf) (relation : Relation) → AsksWell leaf → leaf.arity ≡ length q.head → AreUnionAnswers facts leaf relation → IsOverLeaf q relation
+leaf_over facts q leaf relation asks arity answers = record {
+  arity = answers.arity ∙ arity;
+  long = All-from_contains (λ row. length row ≡ relation.arity) relation.rows (λ row there. answer_length facts leaf row asks ((answers.rows row).0 there) ∙ sym answers.arity);
+  rising = answers.rising;
+}
+
+pub leaves_over : (e : Encoded) (facts : List Fact) (qs : List Cq) (leaves : List Leaf) (relations : List Relation) → All IsQuery qs → AllZip (IsLeafOf e) qs leaves → AllZip (AreUnionAnswers facts) leaves relations → AllZip IsOverLeaf qs relations
+leaves_over e facts [] [] [] queries are answers = tt
+leaves_over e facts [] [] (r ∷ rs) queries are answers = absurd answers
+leaves_over e facts [] (leaf ∷ leaves) rs queries are answers = absurd are
+leaves_over e facts (q ∷ qs) [] rs queries are answers = absurd are
+leaves_over e facts (q ∷ qs) (leaf ∷ leaves) [] queries are answers = absurd answers
+leaves_over e facts (q ∷ qs) (leaf ∷ leaves) (r ∷ rs) queries are answers = (
+  leaf_over facts q leaf r (leaf_asks_well e q leaf (All-head IsQuery q qs queries) are.0) are.0.arity answers.0,
+  leaves_over e facts qs leaves rs (All-tail IsQuery q qs queries) are.1 answers.1,
+)

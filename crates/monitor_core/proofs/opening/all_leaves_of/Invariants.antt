@@ -1,0 +1,12 @@
+use Rattle.std.proofs.Common.{◌≤◌, take}
+use Rattle.monitor_core.specs.Planning.{AreAllLeaves, AreTables}
+use Rattle.monitor_core.specs.Opening.{all_leaves, ReachAll}
+use Rattle.monitor_core.proofs.opening.all_leaves_of.Given as goal
+
+abbrev pub invariant-loop-query : goal.invariant-loop-query
+invariant-loop-query l = record {
+  few : l.all.reached ≤ l.room;
+  tables : AreTables (take l.query-index l.queries);
+  each : AreAllLeaves l.rewriter (take l.query-index l.queries) l.all.each.items;
+  all : ReachAll l.rewriter (all_leaves (take l.query-index l.queries)) l.all.reached;
+}

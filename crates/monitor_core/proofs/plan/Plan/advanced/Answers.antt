@@ -1,0 +1,53 @@
+use Rattle.std.proofs.Common.{◌≡◌, ◌<◌, ◌≤◌, ◌+◌, ◌++◌, [], ◌∷◌, List, length, take, refl, sym, subst, arith}
+use Rattle.std.specs.Prelude.{Some, slice_get}
+use Rattle.std.proofs.lemmas.Option.{slice_get_read}
+use Rattle.std.proofs.lemmas.List.{take_all}
+use Rattle.std.proofs.lemmas.Slice.Zip.{AllZip-long}
+use Rattle.dl_syntax.specs.Rows.{Relation}
+use Rattle.tcq_syntax.specs.Tcq.{Tcq}
+use Rattle.progression.specs.declared.kept.Kept.{Kept}
+use Rattle.progression.specs.Kept.{Fits}
+use Rattle.monitor_core.specs.Advancing.{AllAdvance}
+use Rattle.monitor_core.proofs.OneQuery.{element_at, fit_at}
+use Rattle.monitor_core.proofs.Advances.{all_advance_more}
+use Rattle.monitor_core.proofs.plan.Plan.advanced.Goals as goal
+
+pub advance_one-requires-clause-within : goal.advance_one-requires-clause-within
+advance_one-requires-clause-within c =
+    let o = c.args.self.now.ontology in
+    let queries = c.args.self.now.queries.items in
+    let long : length c.args.kept.now ≡ length queries = AllZip-long (λ (q : Tcq) (k : Kept). Fits q (length o.individuals) k) queries c.args.kept.now c.requires.fits in
+    omega (arith, c.loop-place-test.true)
+
+pub advance_one-requires-clause-fits : goal.advance_one-requires-clause-fits
+advance_one-requires-clause-fits c = λ query there.
+    fit_at c.args.self.now.ontology c.args.self.now.queries.items c.args.kept.now c.loop-place.place query c.index-kept-place.result c.requires.fits there
+    (slice_get_read c.args.kept.now (length c.args.kept.now) c.loop-place.place c.index-kept-place.result refl c.loop-place-test.true c.index-kept-place.is)
+
+pub loop-place-preserved : goal.loop-place-preserved
+loop-place-preserved c =
+    let o = c.args.self.now.ontology in
+    let queries = c.args.self.now.queries.items in
+    let kept = c.args.kept.now in
+    let facts = c.args.facts.now in
+    let i = c.loop-place.place in
+    let long : length kept ≡ length queries = AllZip-long (λ (q : Tcq) (k : Kept). Fits q (length o.individuals) k) queries kept c.requires.fits in
+    let within : i < length queries = omega (arith, c.loop-place-test.true) in
+    let (query, there) = element_at queries i within in
+    let more : AllAdvance o (take (i + 1) queries) facts (take (i + 1) kept) (c.loop-place.new.items ++ c.in_ok-k.k ∷ []) (c.loop-place.answers.items ++ c.in_ok-k.rows ∷ []) =
+    all_advance_more o facts queries kept c.loop-place.new.items c.loop-place.answers.items i query c.index-kept-place.result c.in_ok-k.k c.in_ok-k.rows within c.loop-place-test.true there c.index-kept-place.is c.loop-place.invariant (c.in_ok-k.ensures query there) in
+    subst (λ (ks : List Kept). AllAdvance o (take (i + 1) queries) facts (take (i + 1) kept) ks c.push-in-loop-place.new.self.items) (sym c.in_ok-push.ensures.items)
+    (subst (λ (rs : List Relation). AllAdvance o (take (i + 1) queries) facts (take (i + 1) kept) (c.loop-place.new.items ++ c.in_ok-k.k ∷ []) rs) (sym c.in_ok-push-2.ensures.items) more)
+
+pub returns : goal.returns
+returns c =
+    let o = c.args.self.now.ontology in
+    let queries = c.args.self.now.queries.items in
+    let kept = c.args.kept.now in
+    let facts = c.args.facts.now in
+    let i = c.loop-place.place in
+    let long : length kept ≡ length queries = AllZip-long (λ (q : Tcq) (k : Kept). Fits q (length o.individuals) k) queries kept c.requires.fits in
+    let all : take i queries ≡ queries = take_all i queries (omega (arith, c.loop-place-test.false)) in
+    let both : take i kept ≡ kept = take_all i kept (omega (arith, c.loop-place-test.false)) in
+    subst (λ (qs : List Tcq). AllAdvance o qs facts kept c.loop-place.new.items c.loop-place.answers.items) all
+    (subst (λ (ks : List Kept). AllAdvance o (take i queries) facts ks c.loop-place.new.items c.loop-place.answers.items) both c.loop-place.invariant)

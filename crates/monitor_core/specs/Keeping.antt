@@ -1,0 +1,59 @@
+-- What a monitor keeps from one snapshot to the next.
+use Rattle.std.specs.Prelude.{◌≡◌, ◌↔◌, ◌⊎◌, ℕ, true, List, length}
+use Rattle.std.specs.List.{All, AllZip, Contains}
+use Rattle.dl_syntax.specs.Ontology.{Declared}
+use Rattle.dl_syntax.specs.declared.ontology.Inclusion.{Inclusion}
+use Rattle.tcq_syntax.specs.Histories.{empty_history}
+use Rattle.tcq_syntax.specs.Tcq.{Tcq}
+use Rattle.formula_store.specs.Interned.{AreDistinct}
+use Rattle.answer_tables.specs.Table.{Chains, HasChain}
+use Rattle.progression.specs.Kept.{Fits, StandsFor}
+use Rattle.progression.specs.declared.kept.Kept.{Kept}
+use Rattle.monitor_core.specs.declared.plan.Plan.{Plan}
+use Rattle.monitor_core.specs.declared.state.State.{State}
+use Rattle.monitor_core.specs.Planning.{IsPlan}
+
+-- some tuple of a table that is kept of a query has the chain
+abbrev pub KeepsOf : Kept → List ℕ → Type 0
+KeepsOf kept chain = (place : ℕ) × (table : Chains) × Contains kept.tables.items (place, table) × HasChain table chain
+
+-- some tuple of a kept table has it
+abbrev pub KeepsChain : List Kept → List ℕ → Type 0
+KeepsChain kept chain = (k : Kept) × Contains kept k × KeepsOf k chain
+
+-- the new list has what the old one has, and exactly what the property holds of beside
+abbrev pub AddsChains : (List ℕ → Type 0) → List (List ℕ) → List (List ℕ) → Type 0
+AddsChains P old new = (chain : List ℕ) → Contains new chain ↔ (Contains old chain ⊎ P chain)
+
+-- the list has exactly the chains of the kept tables, each once
+pub record IsStoreOf (kept : List Kept) (store : List (List ℕ)) : Type 0 where
+  pub distinct : AreDistinct store
+  pub exact : (chain : List ℕ) → Contains store chain ↔ KeepsChain kept chain
+
+-- all count the same snapshots, and the chains are those of the kept tables
+pub record IsState (state : State) : Type 0 where
+  pub counts : All (λ k. k.count ≡ state.count) state.kept.items
+  pub stored : IsStoreOf state.kept.items state.store
+
+-- what is kept of each query fits it
+abbrev pub AllFit : Declared → List Tcq → List Kept → Type 0
+AllFit ontology queries kept = AllZip (λ query k. Fits query (length ontology.individuals) k) queries kept
+
+-- what a monitor watches and what it keeps
+pub record Monitored : Type 0 where
+  pub plan : Plan
+  pub state : State
+
+pub record IsMonitored (m : Monitored) : Type 0 where
+  pub plan : IsPlan m.plan
+  pub state : IsState m.state
+  pub fits : AllFit m.plan.ontology m.plan.queries.items m.state.kept.items
+
+-- before any snapshot nothing is kept of a query
+pub record IsFresh (query : Tcq) (kept : Kept) : Type 0 where
+  pub counted : kept.count ≡ 0
+  pub fits : (slots : ℕ) → Fits query slots kept
+  pub stands : (inclusions : List Inclusion) (slots : ℕ) → StandsFor inclusions slots (empty_history true) query kept
+
+abbrev pub AllFresh : List Tcq → List Kept → Type 0
+AllFresh queries kept = AllZip IsFresh queries kept
