@@ -1,13 +1,12 @@
 -- A monitor takes the next snapshot.
-use Rattle.std.proofs.Common.{◌≡◌, ℕ, ◌+◌, ◌-◌, ◌^◌, List, [], ◌∷◌, length, refl, sym, ◌∙◌, ap, subst, arith, length-append}
-use Rattle.std.specs.Prelude.{min}
+use Rattle.std.proofs.Common.{◌≡◌, List, [], ◌∷◌, refl, sym, ◌∙◌, ap, subst, arith, length-append}
 use Rattle.dl_syntax.specs.declared.facts.Fact.{Fact}
 use Rattle.dl_syntax.specs.Rows.{Relation}
 use Rattle.tcq_syntax.specs.Histories.{History, with_snapshot}
 use Rattle.perfect_ref.specs.Laws.{IsOverOntology, IsSaturated}
 use Rattle.monitor_core.specs.declared.plan.Plan.{Plan}
 use Rattle.monitor_core.specs.declared.state.State.{State}
-use Rattle.monitor_core.specs.Keeping.{Monitored, IsMonitored, AllFit}
+use Rattle.monitor_core.specs.Keeping.{Monitored, IsMonitored}
 use Rattle.monitor_core.specs.Advancing.{one_more}
 use Rattle.monitor_core.specs.Answering.{AreOver, AreRowsOf}
 use Rattle.monitor_core.specs.Standing.{Stands, Accepts, IsNext, setting_of, count_of}

@@ -1,21 +1,20 @@
 -- All queries advance with one snapshot.
-use Rattle.std.proofs.Common.{◌≡◌, ℕ, suc, ◌+◌, ◌-◌, ◌^◌, ◌<◌, ◌≤◌, List, [], ◌∷◌, ◌++◌, length, take, get_or, refl, sym, ◌∙◌, ap, subst, arith, length-append}
+use Rattle.std.proofs.Common.{◌≡◌, ℕ, ◌+◌, ◌<◌, List, [], ◌∷◌, ◌++◌, length, take, get_or, sym, ◌∙◌, ap, subst, arith}
 use Rattle.std.specs.Prelude.{Some, slice_get}
-use Rattle.std.specs.List.{All, AllZip, Contains}
+use Rattle.std.specs.List.{All}
 use Rattle.std.proofs.lemmas.Option.{get_or_from_slice_get}
 use Rattle.monitor_core.proofs.Askable.{taken_more}
 use Rattle.std.proofs.lemmas.List.Elements.{All-nil, All-cons, All-head, All-tail}
 use Rattle.dl_syntax.specs.declared.names.IndId.{IndId}
 use Rattle.dl_syntax.specs.declared.facts.Fact.{Fact}
-use Rattle.dl_syntax.specs.declared.ontology.Inclusion.{Inclusion}
 use Rattle.dl_syntax.specs.Ontology.{Declared}
 use Rattle.dl_syntax.specs.Rows.{Relation}
 use Rattle.tcq_syntax.specs.Tcq.{Tcq}
 use Rattle.tcq_syntax.specs.Histories.{History, individuals_of, with_snapshot}
-use Rattle.tcq_syntax.specs.Answers.{IsRow, AreAnswers}
+use Rattle.tcq_syntax.specs.Answers.{AreAnswers}
 use Rattle.perfect_ref.specs.Laws.{IsOverOntology, IsSaturated}
 use Rattle.progression.specs.declared.kept.Kept.{Kept}
-use Rattle.progression.specs.Kept.{Fits, StandsFor, AreSlotAnswers}
+use Rattle.progression.specs.Kept.{AreSlotAnswers}
 use Rattle.monitor_core.specs.Keeping.{AllFit}
 use Rattle.monitor_core.specs.Advancing.{one_more, Advances, AllAdvance}
 use Rattle.monitor_core.specs.Answering.{AreRowsOf, AreAllAnswers}

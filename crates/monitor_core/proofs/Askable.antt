@@ -1,8 +1,8 @@
 -- The leaves of a query can be rewritten, and its tuples are few.
-use Rattle.std.proofs.Common.{◌≡◌, ℕ, zero, suc, ◌+◌, ◌-◌, ◌*◌, ◌^◌, ◌<◌, ◌≤◌, List, [], ◌∷◌, ◌++◌, length, take, drop, get_or, refl, sym, ◌∙◌, ap, subst, arith, inl, inr, append_assoc, append-nil, drop-cons}
+use Rattle.std.proofs.Common.{◌≡◌, ℕ, suc, ◌+◌, ◌*◌, ◌^◌, ◌<◌, ◌≤◌, List, [], ◌∷◌, ◌++◌, length, take, drop, get_or, refl, sym, ◌∙◌, ap, subst, arith, inl, inr, append_assoc, append-nil, drop-cons}
 use Rattle.std.specs.Prelude.{Some, slice_get}
-use Rattle.std.specs.List.{All, AllPairs, AllZip, Contains, sum_by}
-use Rattle.std.proofs.lemmas.List.Elements.{All-nil, All-cons, All-head, All-tail, All-contains}
+use Rattle.std.specs.List.{All, AllPairs, Contains}
+use Rattle.std.proofs.lemmas.List.Elements.{All-nil, All-cons, All-contains}
 use Rattle.std.proofs.lemmas.List.Sums.{sum_by-cons}
 use Rattle.std.proofs.Math.Seq.{take-suc}
 use Rattle.std.proofs.lemmas.List.{take-append-drop}
@@ -22,7 +22,7 @@ use Rattle.tcq_syntax.specs.declared.nodes.Node.{Node}
 use Rattle.tcq_syntax.specs.declared.nodes.Node.TheVariants as node
 use Rattle.tcq_syntax.specs.Tcq.{Tcq, IsTcq, IsLeaf, IsAnswerHead}
 use Rattle.tcq_syntax.specs.Sizes.{units, units_of, most_units, futures}
-use Rattle.tcq_syntax.specs.Within.{AreWithin, HasDeclaredLeaves, IsDeclaredLeaf}
+use Rattle.tcq_syntax.specs.Within.{HasDeclaredLeaves}
 use Rattle.perfect_ref.specs.Plain.{Encoded, encoded, IsPlain, IsPlainAtom}
 use Rattle.perfect_ref.specs.Laws.{IsQueryOver}
 use Rattle.progression.specs.Tables.{leaves_of}

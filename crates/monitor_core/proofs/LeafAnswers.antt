@@ -1,6 +1,6 @@
 -- The answers of the cores of leaves are the certain answers of the leaves.
-use Rattle.std.proofs.Common.{◌≡◌, ℕ, suc, ◌<◌, ◌≤◌, List, [], ◌∷◌, length, refl, sym, ◌∙◌, ap, subst, arith}
-use Rattle.std.specs.Prelude.{◌↔◌, Some, slice_get}
+use Rattle.std.proofs.Common.{◌≡◌, List, [], ◌∷◌, length, sym, ◌∙◌, ap, subst}
+use Rattle.std.specs.Prelude.{◌↔◌}
 use Rattle.std.specs.List.{All, AllZip, Contains}
 use Rattle.std.proofs.lemmas.List.Elements.{All-nil, All-cons, All-head, All-tail, All-weaker, All-contains}
 use Rattle.dl_syntax.specs.declared.names.IndId.{IndId}
@@ -20,13 +20,13 @@ use Rattle.query_unify.specs.Reach.{go, replace}
 use Rattle.query_unify.specs.Saturation.{IsCore, begin, made}
 use Rattle.query_unify.proofs.Bound.{IsQuery-normalise}
 use Rattle.query_unify.proofs.Shorter.{normalise-short}
-use Rattle.perfect_ref.specs.Plain.{Encoded, encoded, PlainCore, Lists}
+use Rattle.perfect_ref.specs.Plain.{Encoded, encoded, PlainCore}
 use Rattle.perfect_ref.specs.Laws.{IsOverOntology, IsQueryOver, IsSaturated, SomeGives}
 use Rattle.perfect_ref.proofs.Answering.{Steps-query, answers_of_core}
 use Rattle.ucq_join.specs.Answers.{IsUnionAnswer}
 use Rattle.progression.specs.Kept.{AreCertain}
 use Rattle.monitor_core.specs.declared.plan.Leaf.{Leaf}
-use Rattle.monitor_core.specs.Planning.{IsAskable, IsLeafOf}
+use Rattle.monitor_core.specs.Planning.{IsLeafOf}
 use Rattle.monitor_core.specs.Leaves.{AsksWell, AreUnionAnswers}
 
 -- the core holds queries within the limits, with heads as long

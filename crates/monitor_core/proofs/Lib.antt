@@ -7,3 +7,4 @@ pub mod Askable
 pub mod Starting
 pub mod OneQuery
 pub mod Accepting
+pub mod Sizes

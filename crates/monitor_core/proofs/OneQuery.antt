@@ -1,5 +1,5 @@
 -- One query of a plan advances with a snapshot.
-use Rattle.std.proofs.Common.{◌≡◌, ℕ, zero, suc, ◌+◌, ◌-◌, ◌^◌, ◌<◌, ◌≤◌, List, [], ◌∷◌, length, get_or, refl, sym, ◌∙◌, ap, subst, arith}
+use Rattle.std.proofs.Common.{◌≡◌, ℕ, zero, suc, ◌+◌, ◌-◌, ◌^◌, ◌<◌, ◌≤◌, List, [], ◌∷◌, length, get_or, refl, sym, subst, arith}
 use Rattle.std.specs.Prelude.{Some, slice_get, min, Vec, Result, Ok, Err, IfOk}
 use Rattle.std.specs.Global.{Global}
 use Rattle.std.specs.List.{All, AllZip, Contains}
@@ -12,12 +12,10 @@ use Rattle.dl_syntax.specs.Ontology.{Declared}
 use Rattle.dl_syntax.specs.declared.ontology.Inclusion.{Inclusion}
 use Rattle.tcq_syntax.specs.Tcq.{Tcq, IsTcq}
 use Rattle.tcq_syntax.specs.Histories.{History, with_snapshot}
-use Rattle.tcq_syntax.specs.Sizes.{units, most_units}
 use Rattle.tcq_syntax.specs.Within.{HasDeclaredLeaves}
 use Rattle.perfect_ref.specs.Plain.{encoded}
-use Rattle.perfect_ref.specs.Laws.{IsOverOntology, IsSaturated}
 use Rattle.progression.specs.declared.kept.Kept.{Kept}
-use Rattle.progression.specs.Kept.{Fits, StandsFor, AreRows, AreSlotAnswers, AreOverLeaves, AreLeafAnswers}
+use Rattle.progression.specs.Kept.{Fits, StandsFor, AreRows, AreOverLeaves, AreLeafAnswers}
 use Rattle.progression.specs.Kept.{Advances as Steps}
 use Rattle.monitor_core.specs.declared.plan.Leaf.{Leaf}
 use Rattle.monitor_core.specs.declared.plan.Plan.{Plan}
@@ -28,7 +26,7 @@ use Rattle.monitor_core.specs.Advancing.{Advances}
 use Rattle.monitor_core.proofs.LeafAnswers.{all_ask_well, leaves_certain, leaves_over}
 use Rattle.monitor_core.proofs.Askable.{query_leaves, over_leaves, few_tuples}
 
-all_zip_at : {A B : Type 0} (R : A → B → Type 0) (xs : List A) (ys : List B) (k : ℕ) (x : A) (y : B) → AllZip R xs ys → slice_get xs k ≡ Some x → slice_get ys k ≡ Some y → R x y
+pub all_zip_at : {A B : Type 0} (R : A → B → Type 0) (xs : List A) (ys : List B) (k : ℕ) (x : A) (y : B) → AllZip R xs ys → slice_get xs k ≡ Some x → slice_get ys k ≡ Some y → R x y
 all_zip_at R [] ys k x y zipped first second = absurd (cc)
 all_zip_at R (v ∷ xs) [] k x y zipped first second = absurd zipped
 all_zip_at R (v ∷ xs) (w ∷ ys) zero x y zipped first second = let one : v ≡ x = cc in let other : w ≡ y = cc in subst (λ a. R a y) one (subst (R v) other zipped.0)

@@ -1,20 +1,14 @@
 -- What is said of declared names is over the ontology.
-use Rattle.std.proofs.Common.{◌≡◌, ℕ, ◌<◌, List, [], ◌∷◌, ◌++◌, length, refl, sym, subst}
+use Rattle.std.proofs.Common.{List, length}
 use Rattle.std.specs.Prelude.{◌↔◌}
 use Rattle.std.specs.List.{All, Contains}
-use Rattle.std.proofs.lemmas.List.Elements.{All-nil, All-cons, All-append, All-contains, All-weaker}
-use Rattle.dl_syntax.specs.declared.facts.Element.{Element}
+use Rattle.std.proofs.lemmas.List.Elements.{All-weaker}
 use Rattle.dl_syntax.specs.declared.facts.Element.TheVariants.{Ind, Null}
 use Rattle.dl_syntax.specs.declared.facts.Fact.{Fact}
 use Rattle.dl_syntax.specs.declared.facts.Fact.TheVariants as fact
-use Rattle.dl_syntax.specs.declared.ontology.Inclusion.{Inclusion}
-use Rattle.dl_syntax.specs.declared.ontology.Inclusion.TheVariants as inclusion
-use Rattle.dl_syntax.specs.Chase.{Makes, Chase, start, step, Step, basic_fact}
 use Rattle.dl_syntax.specs.Declaring.{IsDeclaredFact, IsDeclaredInclusion}
-use Rattle.dl_syntax.specs.Facts.{HasNoNull, role_fact}
+use Rattle.dl_syntax.specs.Facts.{HasNoNull}
 use Rattle.dl_syntax.specs.Ontology.{Declared}
-use Rattle.dl_syntax.proofs.Images.{role_fact_declared, basic_fact_declared}
-use Rattle.query_unify.specs.Saturation.{IsSaturation}
 use Rattle.perfect_ref.specs.Laws.{IsOverOntology, IsSaturated}
 use Rattle.monitor_core.specs.Answering.{IsOver, AreOver}
 

@@ -1,12 +1,11 @@
 -- Before any snapshot nothing is kept.
-use Rattle.std.proofs.Common.{◌≡◌, ℕ, true, List, [], ◌∷◌, length, refl, subst}
-use Rattle.std.specs.List.{All, AllZip}
+use Rattle.std.proofs.Common.{◌≡◌, List, [], ◌∷◌, length}
+use Rattle.std.specs.List.{All}
 use Rattle.std.proofs.lemmas.List.Elements.{All-nil, All-cons}
 use Rattle.dl_syntax.specs.Ontology.{Declared}
 use Rattle.tcq_syntax.specs.Tcq.{Tcq}
-use Rattle.tcq_syntax.specs.Histories.{empty_history}
 use Rattle.progression.specs.declared.kept.Kept.{Kept}
-use Rattle.monitor_core.specs.Keeping.{IsFresh, AllFresh, AllFit}
+use Rattle.monitor_core.specs.Keeping.{AllFresh, AllFit}
 use Rattle.monitor_core.specs.Standing.{no_history, AllStand}
 
 pub fresh_counts : (queries : List Tcq) (kept : List Kept) → AllFresh queries kept → All (λ (k : Kept). k.count ≡ 0) kept

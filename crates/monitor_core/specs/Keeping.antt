@@ -1,6 +1,6 @@
 -- What a monitor keeps from one snapshot to the next.
-use Rattle.std.specs.Prelude.{◌≡◌, ◌↔◌, ◌⊎◌, ℕ, true, List, length}
-use Rattle.std.specs.List.{All, AllZip, Contains}
+use Rattle.std.specs.Prelude.{◌≡◌, ◌↔◌, ◌⊎◌, ℕ, true, List, [], ◌∷◌, length}
+use Rattle.std.specs.List.{All, AllZip, Contains, sum_by}
 use Rattle.dl_syntax.specs.Ontology.{Declared}
 use Rattle.dl_syntax.specs.declared.ontology.Inclusion.{Inclusion}
 use Rattle.tcq_syntax.specs.Histories.{empty_history}
@@ -29,6 +29,10 @@ AddsChains P old new = (chain : List ℕ) → Contains new chain ↔ (Contains o
 pub record IsStoreOf (kept : List Kept) (store : List (List ℕ)) : Type 0 where
   pub distinct : AreDistinct store
   pub exact : (chain : List ℕ) → Contains store chain ↔ KeepsChain kept chain
+
+-- the total length of the distinct chains that are kept of one query
+abbrev pub IsClausesOf : Kept → ℕ → Type 0
+IsClausesOf k size = (store : List (List ℕ)) × IsStoreOf (k ∷ []) store × (size ≡ sum_by length store)
 
 -- all count the same snapshots, and the chains are those of the kept tables
 pub record IsState (state : State) : Type 0 where

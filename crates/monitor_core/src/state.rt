@@ -2,7 +2,7 @@
 ghost use Rattle.std.specs.Prelude.{◌≡◌, [], IfOk, OnOk};
 ghost use Rattle.std.specs.List.{All};
 ghost use Rattle.answer_tables.specs.Table.{HasChain};
-ghost use Rattle.monitor_core.specs.Keeping.{KeepsOf, KeepsChain, IsState, AddsChains};
+ghost use Rattle.monitor_core.specs.Keeping.{KeepsOf, KeepsChain, IsState, AddsChains, IsClausesOf};
 
 use answer_tables::Table;
 use dl_syntax::Memory;
@@ -64,4 +64,14 @@ pub(crate) fn state_of(alloc: Global, count: u64, kept: Vec<Kept>) -> Result<Sta
     let links = links_of(alloc, kept.as_slice())?;
     let (store, _) = Store::next_generation(alloc, links.as_slice())?;
     Ok(State { count, kept, store })
+}
+
+/// The total length of the distinct chains that are kept of a query.
+pub(crate) fn clauses_of(alloc: Global, kept: &Kept) -> Result<u64, Memory>
+    ensures { IfOk result (IsClausesOf kept.now) }
+{
+    let mut links = Vec::new(alloc);
+    add_kept(kept, &mut links)?;
+    let (store, _) = Store::next_generation(alloc, links.as_slice())?;
+    Ok(store.clauses())
 }

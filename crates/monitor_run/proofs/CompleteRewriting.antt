@@ -1,5 +1,5 @@
 -- Where nothing fails a rewriting is done, but for want of memory.
-use Rattle.std.proofs.Common.{◌≡◌, ℕ, inl, inr, Option, Some, Ok, Err, List, [], ◌∷◌, refl, sym, ◌∙◌, ap, subst}
+use Rattle.std.proofs.Common.{◌≡◌, ℕ, inl, inr, List, [], ◌∷◌, refl, sym, ◌∙◌}
 use Rattle.std.specs.Prelude.{◌⊎◌}
 use Rattle.monitor_run.specs.declared.ending.Status.TheVariants as status
 use Rattle.monitor_run.specs.declared.ending.Ending.{Ending}

@@ -1,5 +1,5 @@
 -- Where nothing fails a run is done, but for want of memory.
-use Rattle.std.proofs.Common.{◌≡◌, true, false, nat_eq, ℕ, ◌≤◌, inl, inr, Option, None, Some, Ok, Err, List, [], ◌∷◌, ◌++◌, length, refl, sym, ◌∙◌, ap, subst, arith, length-append}
+use Rattle.std.proofs.Common.{◌≡◌, true, false, nat_eq, ℕ, ◌≤◌, inl, inr, Option, None, Some, List, [], ◌∷◌, ◌++◌, length, refl, sym, ◌∙◌, ap, arith, length-append}
 use Rattle.std.specs.Prelude.{◌⊎◌, codes}
 use Rattle.edge_io.specs.Known.{Takes}
 use Rattle.monitor_run.specs.declared.ending.Status.TheVariants as status

@@ -1,11 +1,9 @@
 -- The core's count of rewritings is that of a run.
-use Rattle.std.proofs.Common.{◌≡◌, ℕ, ◌+◌, ◌<◌, List, [], ◌∷◌, ◌++◌, length, map, refl, sym, ◌∙◌, ap, subst, arith, append_assoc}
+use Rattle.std.proofs.Common.{◌≡◌, ℕ, ◌+◌, List, [], ◌∷◌, ◌++◌, length, map, refl, sym, ◌∙◌, ap, subst, arith}
 use Rattle.std.specs.List.{AllZip, sum_by}
 use Rattle.std.proofs.lemmas.List.{map-append}
 use Rattle.std.proofs.lemmas.List.Sums.{sum_by-cons}
 use Rattle.dl_syntax.specs.Ontology.{Declared}
-use Rattle.dl_syntax.specs.declared.ontology.Role.{Role}
-use Rattle.dl_syntax.specs.declared.ontology.Basic.{Basic}
 use Rattle.dl_syntax.specs.declared.ontology.Basic.TheVariants as basic
 use Rattle.dl_syntax.specs.declared.ontology.Clash.{Clash}
 use Rattle.dl_syntax.specs.declared.ontology.Clash.TheVariants as clash
@@ -16,10 +14,9 @@ use Rattle.tcq_syntax.specs.Tcq.{Tcq}
 use Rattle.perfect_ref.specs.Plain.{Encoded, encoded}
 use Rattle.consistency.specs.Asking.{query_of}
 use Rattle.progression.specs.Tables.{leaves_of as leaves_in}
-use Rattle.monitor_core.specs.Setting.{Setting}
 use Rattle.monitor_core.specs.Opening.{all_leaves, starts, AreReached as CoreReached, ReachMore, HasMoreRewritings}
-use Rattle.monitor_run.specs.Leaves.{NamedLeaf, leaf_of, leaves_from, leaves_of, leaves, asked}
-use Rattle.monitor_run.specs.Reaching.{clash_query, rewritten, AreReached, Reaches, ReachesMore, most_rewritings, AreTooMany}
+use Rattle.monitor_run.specs.Leaves.{NamedLeaf, leaves_from, leaves_of, leaves, asked}
+use Rattle.monitor_run.specs.Reaching.{clash_query, rewritten, Reaches, ReachesMore, most_rewritings, AreTooMany}
 use Rattle.monitor_run.proofs.Counts.{reaches_append}
 
 module _ (e : Encoded) where

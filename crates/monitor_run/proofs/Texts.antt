@@ -1,5 +1,5 @@
 -- Files whose first bytes were fetched, and what their texts say.
-use Rattle.std.proofs.Common.{◌≡◌, ℕ, ◌+◌, ◌<◌, ◌≤◌, ◌⊎◌, inl, inr, true, cond, Option, None, Some, Err, List, [], ◌∷◌, length, take, refl, sym, ◌∙◌, ap, subst, arith}
+use Rattle.std.proofs.Common.{◌≡◌, ℕ, ◌+◌, ◌<◌, ◌≤◌, ◌⊎◌, inl, inr, true, cond, Option, None, Some, Err, List, length, take, refl, sym, ◌∙◌, ap, subst, arith}
 use Rattle.std.specs.Prelude.{nat_lt, IsSomeAnd}
 use Rattle.std.proofs.lemmas.Bool.Decides.{nat_tests}
 use Rattle.std.proofs.lemmas.List.{take_all, length-take}
@@ -11,9 +11,6 @@ use Rattle.ontology_reader.specs.declared.OntologyKind.TheVariants.{TooLong}
 use Rattle.ontology_reader.specs.Texts.{text_says, lines_added}
 use Rattle.tcq_reader.specs.declared.faults.QueryKind.{QueryKind}
 use Rattle.tcq_reader.specs.Reading.{SaysQueries, IsFault}
-use Rattle.monitor_core.specs.Setting.{Setting}
-use Rattle.monitor_run.specs.declared.ending.Ending.{Ending}
-use Rattle.monitor_run.specs.declared.ending.Ending.TheVariants.{Done, Usage, BadOntology, TooManyRewritings, BadQueries, ReadFault, WriteFault, Memory, StreamLimit}
 use Rattle.monitor_run.specs.Opening.{HasText}
 use Rattle.monitor_run.proofs.QueryTexts.{fault_too_long}
 

@@ -1,13 +1,10 @@
 -- Laws of rewritings.
-use Rattle.std.specs.Prelude.{◌≡◌, ◌⊎◌, ℕ, List, Some}
+use Rattle.std.specs.Prelude.{◌≡◌, ◌⊎◌, ℕ, List}
 use Rattle.std.specs.declared.option.Option.{Option}
-use Rattle.edge_io.specs.Causes.{Rose}
-use Rattle.edge_io.specs.Held.{Store}
 use Rattle.monitor_core.specs.Setting.{Setting}
 use Rattle.monitor_run.specs.declared.ending.Status.{Status}
 use Rattle.monitor_run.specs.declared.ending.Status.TheVariants.{Done, Memory}
 use Rattle.monitor_run.specs.Leaves.{IsRewriting}
-use Rattle.monitor_run.specs.Reaching.{AreTooMany}
 use Rattle.monitor_run.specs.Sources.{AreRewrite}
 use Rattle.monitor_run.specs.Laws.{HasGoodFiles}
 use Rattle.monitor_run.specs.Running.{Outside, Ran}

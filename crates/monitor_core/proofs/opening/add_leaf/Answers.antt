@@ -1,4 +1,4 @@
-use Rattle.std.proofs.Common.{◌≡◌, ◌++◌, [], ◌∷◌, ◌-◌, ◌∙◌}
+use Rattle.std.proofs.Common.{[], ◌∷◌, ◌-◌, ◌∙◌}
 use Rattle.monitor_core.proofs.Counting.{gathers_more, more_later, more_one}
 use Rattle.monitor_core.proofs.opening.add_leaf.Goals as goal
 

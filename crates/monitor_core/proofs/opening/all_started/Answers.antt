@@ -1,6 +1,5 @@
-use Rattle.std.proofs.Common.{◌≡◌, ◌+◌, ◌++◌, [], ◌∷◌, List, take, sym, subst}
+use Rattle.std.proofs.Common.{◌+◌, ◌++◌, [], ◌∷◌, List, take, sym, subst}
 use Rattle.std.specs.Prelude.{true}
-use Rattle.std.specs.List.{AllZip}
 use Rattle.std.proofs.lemmas.Slice.Zip.{all_zipped_more}
 use Rattle.tcq_syntax.specs.Tcq.{Tcq}
 use Rattle.progression.specs.declared.kept.Kept.{Kept}

@@ -1,4 +1,3 @@
-use Rattle.std.proofs.Common.{◌≡◌, List}
 use Rattle.monitor_core.proofs.Starting.{fresh_counts}
 use Rattle.monitor_core.proofs.opening.first_state.Goals as goal
 

@@ -1,11 +1,9 @@
-use Rattle.std.proofs.Common.{◌≡◌, ◌+◌, ◌++◌, [], ◌∷◌, List, suc, take, drop, get_or, sym, ◌∙◌, ap, subst, arith}
+use Rattle.std.proofs.Common.{◌≡◌, ◌++◌, [], ◌∷◌, List, suc, take, drop, sym, ◌∙◌, ap, subst}
 use Rattle.std.specs.Prelude.{Some, slice_get}
 use Rattle.std.proofs.lemmas.Option.{slice_get-get_or}
-use Rattle.std.proofs.lemmas.List.{take_all}
 use Rattle.dl_syntax.specs.declared.queries.Cq.{Cq}
 use Rattle.tcq_syntax.specs.declared.nodes.Node.{Node}
 use Rattle.tcq_syntax.specs.declared.nodes.Node.TheVariants as node
-use Rattle.tcq_syntax.specs.Tcq.{IsTcq}
 use Rattle.progression.specs.Tables.{leaves_of}
 use Rattle.monitor_core.specs.Opening.{ReachMore, Gathers}
 use Rattle.monitor_core.proofs.Askable.{askable, leaves_parted, leaves_taken}

@@ -1,4 +1,4 @@
-use Rattle.std.proofs.Common.{◌≡◌, ◌≤◌, ◌+◌, ◌-◌, ◌++◌, List, map, sym, ◌∙◌, subst, arith}
+use Rattle.std.proofs.Common.{◌≤◌, ◌+◌, ◌-◌, List, map, ◌∙◌, subst, arith}
 use Rattle.tcq_syntax.specs.Tcq.{Tcq}
 use Rattle.perfect_ref.specs.Plain.{Encoded, encoded}
 use Rattle.consistency.specs.Asking.{query_of}

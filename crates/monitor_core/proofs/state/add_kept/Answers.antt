@@ -1,7 +1,7 @@
-use Rattle.std.proofs.Common.{◌≡◌, ◌≤◌, ◌+◌, ℕ, List, [], length, take, sym, ◌∙◌, ap, subst, arith}
+use Rattle.std.proofs.Common.{◌≡◌, ℕ, List, take, ◌∙◌, subst, arith}
 use Rattle.std.proofs.lemmas.List.{take_all}
 use Rattle.answer_tables.specs.Table.{Chains}
-use Rattle.monitor_core.specs.Keeping.{KeepsOf, AddsChains}
+use Rattle.monitor_core.specs.Keeping.{AddsChains}
 use Rattle.monitor_core.proofs.Storing.{HasEntry, adds_entry}
 use Rattle.monitor_core.proofs.state.add_kept.Goals as goal
 

@@ -1,4 +1,4 @@
-use Rattle.std.proofs.Common.{◌≡◌, ◌≤◌, ◌+◌, ℕ, List, [], length, take, sym, ◌∙◌, ap, subst, arith}
+use Rattle.std.proofs.Common.{◌≡◌, List, [], take, subst, arith}
 use Rattle.std.proofs.lemmas.List.{take_all}
 use Rattle.progression.specs.declared.kept.Kept.{Kept}
 use Rattle.monitor_core.specs.Keeping.{KeepsChain, AddsChains}

@@ -1,8 +1,7 @@
-use Rattle.std.proofs.Common.{◌≡◌, ℕ, List, refl, sym, ◌∙◌, ap, subst}
+use Rattle.std.proofs.Common.{◌≡◌, ℕ, List, refl, sym, ap, subst}
 use Rattle.std.specs.Prelude.{Option, None, Some}
 use Rattle.dl_syntax.specs.declared.facts.Fact.{Fact}
 use Rattle.dl_syntax.specs.Ontology.{Declared}
-use Rattle.perfect_ref.specs.Laws.{IsOverOntology, IsSaturated}
 use Rattle.consistency.specs.Least.{IsFirstClash, IsLeastClash, IsConsistentUnder}
 use Rattle.monitor_core.specs.Keeping.{Monitored}
 use Rattle.monitor_core.specs.Answering.{AreOver, AreRowsOf}

@@ -1,7 +1,7 @@
-use Rattle.std.proofs.Common.{◌≡◌, List, sym, ◌∙◌, ap, subst}
+use Rattle.std.proofs.Common.{◌≡◌, List, sym, subst}
 use Rattle.std.specs.List.{All}
 use Rattle.progression.specs.declared.kept.Kept.{Kept}
-use Rattle.monitor_core.specs.Advancing.{AllAdvance, one_more}
+use Rattle.monitor_core.specs.Advancing.{AllAdvance}
 use Rattle.monitor_core.proofs.Advances.{all_counted}
 use Rattle.monitor_core.proofs.monitor.Monitor.next.Goals as goal
 

@@ -1,4 +1,4 @@
-use Rattle.std.proofs.Common.{◌≡◌, List, subst}
+use Rattle.std.proofs.Common.{List, subst}
 use Rattle.dl_syntax.specs.declared.ontology.Inclusion.{Inclusion}
 use Rattle.query_unify.specs.Saturation.{IsSaturation}
 use Rattle.perfect_ref.specs.Laws.{IsOverOntology, IsSaturated}
