@@ -1,0 +1,15 @@
+-- Relations over the leaves of nodes.
+use Rattle.std.specs.Prelude.{List, [], ◌∷◌, ◌++◌}
+use Rattle.std.specs.List.{AllZip}
+use Rattle.dl_syntax.specs.declared.queries.Cq.{Cq}
+use Rattle.dl_syntax.specs.Rows.{Relation}
+use Rattle.tcq_syntax.specs.declared.nodes.Node.{Node}
+use Rattle.progression.specs.Tables.{leaves_of, IsOverLeaf}
+
+-- the relations are over the leaves of the nodes, in order
+abbrev pub AreOver : List Node → List Relation → Type 0
+AreOver nodes relations = AllZip IsOverLeaf (leaves_of nodes) relations
+
+-- relations over the leaves of any nodes become relations over those and one more node's
+abbrev pub GoesOn : List Relation → Node → List Relation → Type 0
+GoesOn old n new = (nodes : List Node) → AreOver nodes old → AreOver (nodes ++ n ∷ []) new

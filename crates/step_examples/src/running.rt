@@ -1,0 +1,47 @@
+//! A query on a history, step by step.
+
+ghost use Rattle.std.specs.Prelude.{◌<◌, ◌≤◌, IfSome, length};
+ghost use Rattle.progression.specs.Kept.{Fits};
+
+use crate::leaves::leaves_at;
+use crate::plain::{Fact, holds_last};
+use formula_store::Store;
+use progression::{Kept, advance, start};
+use std::alloc::Global;
+use tcq_syntax::Query;
+
+// What is kept after the last position, and whether the answers there are those of the plain definition.
+fn one_step(
+    alloc: Global,
+    query: &Query,
+    kept: &Kept,
+    facts: &[Fact],
+    store: &mut Store,
+) -> Option<(Kept, bool)>
+    requires fits { Fits query.now 1 kept.now }
+    requires some { 0 < length facts.now }
+    requires few { length facts.now ≤ 4 }
+    ensures { IfSome result (λ r. Fits query.now 1 r.0) }
+{
+    let leaves = leaves_at(alloc, query.nodes(), facts[facts.len() - 1])?;
+    let (kept, rows) = advance(alloc, query, 1, kept, leaves.as_slice(), store).ok()?;
+    let expected = holds_last(alloc, query.nodes(), facts).ok()?;
+    Some((kept, rows.is_empty() != expected))
+}
+
+/// Whether the step answers as the plain definition at each position of a history of at most four,
+/// if there is memory and each leaf has the one answer variable.
+pub fn agrees(alloc: Global, query: &Query, facts: &[Fact]) -> Option<bool>
+    requires { length facts.now ≤ 4 }
+{
+    let mut kept = start(alloc);
+    let mut store = Store::new(alloc);
+    for count in 0..facts.len() {
+        let (next, same) = one_step(alloc, query, &kept, &facts[..count + 1], &mut store)?;
+        if !same {
+            return Some(false);
+        }
+        kept = next;
+    }
+    Some(true)
+}
