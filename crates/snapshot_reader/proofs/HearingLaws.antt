@@ -1,29 +1,21 @@
 -- What is known of a line with one more fact.
-use Rattle.std.proofs.Common.{rules, ◌≡◌, ℕ, ◌+◌, Bool, true, false, cond, List, [], ◌∷◌, ◌++◌, map, refl, sym, ap, ◌∙◌, length-append}
-use Rattle.std.specs.Prelude.{Option, Some, None, is_some, not, ◌||◌, ◌&&◌, ◌==◌, find, filter_map, flat_map}
-use Rattle.std.specs.List.{list_any, cons_option}
+use Rattle.std.proofs.Common.{◌≡◌, ℕ, ◌+◌, Bool, true, false, cond, List, [], ◌∷◌, ◌++◌, map, refl, sym, ap, ◌∙◌, length-append}
+use Rattle.std.specs.Prelude.{Option, Some, None, is_some, not, ◌||◌, find, filter_map, flat_map}
+use Rattle.std.specs.List.{cons_option}
 use Rattle.std.specs.Option.{option_map, option_or}
-use Rattle.std.specs.Bool.{Decides}
-use Rattle.std.proofs.lemmas.Bool.Decides.{same_from_decides, Decides-and, Decides-eqb, Decides-like}
 use Rattle.std.proofs.lemmas.List.{map-append, append-nil}
 use Rattle.std.proofs.lemmas.List.Folds.{find-append}
-use Rattle.std.proofs.lemmas.List.Sums.{fold-append}
 use Rattle.std.proofs.lemmas.List.Elements.{filter_map-append}
 use Rattle.std.proofs.lemmas.Grind.{flat_map-append}
-use Rattle.indexmap.specs.IndexSet.{insert_key}
-use Rattle.dl_syntax.specs.Exact.{IsExact}
 use Rattle.dl_syntax.specs.declared.names.Kind.TheVariants.{Concept, Role, Individual}
-use Rattle.dl_syntax.specs.declared.names.ConceptId.{ConceptId}
-use Rattle.dl_syntax.specs.declared.names.RoleId.{RoleId}
-use Rattle.dl_syntax.specs.declared.facts.Element.{Element}
-use Rattle.dl_syntax.specs.declared.facts.Element.TheVariants.{Ind, Null}
+use Rattle.dl_syntax.specs.declared.facts.Element.TheVariants.{Ind}
 use Rattle.dl_syntax.specs.declared.facts.Fact.{Fact}
 use Rattle.dl_syntax.specs.declared.facts.Fact.TheVariants as fact
 use Rattle.dl_syntax.specs.Ontology.{Declared}
 use Rattle.snapshot_reader.specs.declared.hearing.Heard.{Heard}
 use Rattle.snapshot_reader.specs.declared.hearing.Blamed.{Blamed}
 use Rattle.snapshot_reader.specs.Written.{Written, unary, binary, predicate, arguments}
-use Rattle.snapshot_reader.specs.Said.{number_of, is_name_of, is_declared, is_fitting, first_unknown, first_misused, first_undeclared, fact_of, same_element, same_fact, with_fact, distinct, ◌>>=◌}
+use Rattle.snapshot_reader.specs.Said.{number_of, is_name_of, is_declared, is_fitting, first_unknown, first_misused, first_undeclared, fact_of, ◌>>=◌}
 use Rattle.snapshot_reader.specs.Cursor.{name_seen}
 use Rattle.snapshot_reader.specs.Hearing.{Hears}
 

@@ -6,3 +6,5 @@ pub mod HearingLaws
 pub mod FactsSaid
 pub mod FactsHeard
 pub mod LineWritten
+pub mod JsonFacts
+pub mod RefusedNames

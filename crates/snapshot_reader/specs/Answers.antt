@@ -1,5 +1,9 @@
 -- How an answer tells what a line says.
-use Rattle.std.specs.Prelude.{◌≡◌, Result, Ok, Err}
+use Rattle.std.specs.Prelude.{◌≡◌, ℕ, true, List, Some, None, Result, Ok, Err}
+use Rattle.std.specs.Str.{is_utf8}
+use Rattle.serde_json.specs.declared.value.Value.{Value}
+use Rattle.serde_json.specs.Read.{read}
+use Rattle.serde_json.specs.View.{view}
 use Rattle.snapshot_reader.specs.declared.Reading.{Reading}
 use Rattle.snapshot_reader.specs.declared.Reading.TheVariants.{Skip, Facts}
 use Rattle.snapshot_reader.specs.declared.SnapFault.{SnapFault}
@@ -16,3 +20,13 @@ Tells (Err (fault.WrongKind name)) what = what ≡ refused (wrong_kind name)
 Tells (Err (fault.Undeclared name)) what = what ≡ refused (undeclared name)
 Tells (Err fault.TooManyFacts) what = what ≡ refused too_many_facts
 Tells (Err fault.Memory) what = Unit {0}
+
+-- the value that a line is by its text
+abbrev pub HasValue : List ℕ → Value → Type 0
+HasValue line value = (is_utf8 line ≡ true) × (read line ≡ Some (view value))
+
+-- the line is no text, or its text has no value; memory is free
+abbrev pub HasNoValue : List ℕ → SnapFault → Type 0
+HasNoValue line fault.Malformed = is_utf8 line ≡ true → read line ≡ None
+HasNoValue line fault.Memory = Unit {0}
+HasNoValue line _ = ⊥

@@ -3,3 +3,4 @@ pub mod Said
 pub mod Answers
 pub mod Cursor
 pub mod Hearing
+pub mod Laws

@@ -12,6 +12,7 @@ use Rattle.dl_syntax.specs.declared.facts.Fact.TheVariants as fact
 use Rattle.dl_syntax.specs.Ontology.{Declared, names_of}
 use Rattle.snapshot_reader.specs.declared.Form.{Form}
 use Rattle.snapshot_reader.specs.Written.{Written, unary, binary, predicate, arguments, Line, blank, malformed, writes, line_writes}
+pub use Rattle.snapshot_reader.specs.Written.{◌>>=◌}
 
 -- the number of the name of this kind, in order of declaration
 abbrev pub number_of : Kind → Declared → List ℕ → Option ℕ
@@ -59,11 +60,6 @@ cause_of o facts =
     (if nat_lt most_facts (length facts) then Some too_many_facts else None)))
 
 -- ---- what is said
-
-infixl 10 ◌>>=◌
-abbrev pub ◌>>=◌ : {A B : Type 0} → Option A → (A → Option B) → Option B
-None >>= f = None
-(Some x) >>= f = f x
 
 abbrev pub individual_of : Declared → List ℕ → Option Element
 individual_of o name = option_map (λ number. Ind (record { 0 = number })) (number_of Individual o name)

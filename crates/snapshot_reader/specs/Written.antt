@@ -1,12 +1,18 @@
 -- The facts that a line writes.
-use Rattle.std.specs.Prelude.{ℕ, List, [], ◌∷◌, ◌++◌, Option, Some, None, codes, map, if◌then◌else◌}
+use Rattle.std.specs.Prelude.{ℕ, Bool, false, ◌&&◌, nat_le, List, [], ◌∷◌, ◌++◌, length, Option, Some, None, codes, map, if◌then◌else◌}
 use Rattle.std.specs.Option.{option_map, option_map_or}
-use Rattle.std.specs.Str.{bytes_eq}
+use Rattle.std.specs.List.{list_all}
+use Rattle.std.specs.Str.{bytes_eq, is_utf8}
+use Rattle.serde_json.specs.Data.{Data, Items, item, no_items}
+use Rattle.serde_json.specs.Find.{get, as_array, as_str}
+use Rattle.serde_json.specs.Read.{read}
 use Rattle.text_scan.specs.declared.TokenKind.{TokenKind}
 use Rattle.text_scan.specs.declared.TokenKind.TheVariants.{Name, Open, Close, Comma}
+use Rattle.text_scan.specs.Bytes.{is_blank}
 use Rattle.text_scan.specs.Lexing.{Lexeme, Lexed, lexed}
+use Rattle.dl_syntax.specs.Names.{is_letter, is_name_byte}
 use Rattle.snapshot_reader.specs.declared.Form.{Form}
-use Rattle.snapshot_reader.specs.declared.Form.TheVariants.{Text}
+use Rattle.snapshot_reader.specs.declared.Form.TheVariants.{Text, Json}
 
 -- a predicate of one or of two arguments, by names
 pub data Written : Type 0 where
@@ -26,6 +32,13 @@ pub data Line : Type 0 where
   blank : Line
   malformed : Line
   writes : List Written → Line
+
+infixl 10 ◌>>=◌
+abbrev pub ◌>>=◌ : {A B : Type 0} → Option A → (A → Option B) → Option B
+None >>= f = None
+(Some x) >>= f = f x
+
+-- ---- a line in text form
 
 -- a token without its place; a byte at fault counts as a token that no line has
 pub data Symbol : Type 0 where
@@ -55,6 +68,60 @@ symbols_write [] = blank
 symbols_write (token Name word ∷ rest) = if bytes_eq word (codes "snap") then option_map_or writes (facts_written rest) malformed else malformed
 symbols_write _ = malformed
 
+-- ---- a line in JSON form
+
+-- an ASCII letter or an underscore, then letters, digits, underscores and hyphens, 64 bytes at most
+abbrev pub is_name : List ℕ → Bool
+is_name [] = false
+is_name (first ∷ rest) = is_letter first && list_all is_name_byte rest && nat_le (length (first ∷ rest)) 64
+
+-- the name that a text is
+abbrev pub name_in : Data → Option (List ℕ)
+name_in d = do
+  text ← as_str d
+  if is_name text then Some text else None
+
+-- a predicate with one argument or with two
+abbrev pub fact_of_items : Items → Option Written
+fact_of_items (item p (item a no_items)) = do
+  predicate ← name_in p
+  first ← name_in a
+  Some (unary predicate first)
+fact_of_items (item p (item a (item b no_items))) = do
+  predicate ← name_in p
+  first ← name_in a
+  second ← name_in b
+  Some (binary predicate first second)
+fact_of_items _ = None
+
+-- the fact that a list of names is
+abbrev pub fact_in : Data → Option Written
+fact_in d = as_array d >>= fact_of_items
+
+-- the facts of a list, each of which is one
+abbrev pub facts_in : Items → Option (List Written)
+facts_in no_items = Some []
+facts_in (item d rest) = do
+  fact ← fact_in d
+  option_map (λ facts. fact ∷ facts) (facts_in rest)
+
+-- the facts of an object whose member `facts` is a list of them
+abbrev pub facts_of : Data → Option (List Written)
+facts_of d = do
+  member ← get (codes "facts") d
+  list ← as_array member
+  facts_in list
+
+-- a line of blanks, or a text that has a value with facts
+unfoldable pub json_writes : List ℕ → Line
+json_writes line =
+    if list_all is_blank line then blank
+    else if is_utf8 line then option_map_or writes (read line >>= facts_of) malformed
+    else malformed
+
+-- ---- a line
+
 -- what a line of this form writes
 unfoldable pub line_writes : Form → List ℕ → Line
 line_writes Text line = symbols_write (symbols (lexed 0 0 line))
+line_writes Json line = json_writes line

@@ -6,6 +6,8 @@ ghost use Rattle.std.specs.Prelude.{◌≡◌};
 mod distinct;
 mod facts;
 mod hearing;
+mod json_lines;
+pub mod laws;
 mod lines;
 mod names;
 
@@ -17,6 +19,8 @@ pub use lines::read_snapshot;
 pub enum Form {
     /// The word `snap` and then facts, as `A(a)` and `R(a,b)`.
     Text,
+    /// A JSON object whose member `facts` is a list of them, as `["A","a"]` and `["R","a","b"]`.
+    Json,
 }
 
 /// What a line gives.

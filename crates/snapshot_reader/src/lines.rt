@@ -9,6 +9,7 @@ ghost use Rattle.snapshot_reader.specs.Cursor.{symbols_from, facts_from, IsToken
 
 use crate::facts::{NextFact, name_of, next_fact};
 use crate::hearing::Heard;
+use crate::json_lines::read_json;
 use crate::{Form, Reading, SnapFault};
 use dl_syntax::Ontology;
 use std::alloc::Global;
@@ -75,5 +76,6 @@ pub fn read_snapshot(
 {
     match form {
         Form::Text => read_text(alloc, line, ontology),
+        Form::Json => read_json(alloc, line, ontology),
     }
 }

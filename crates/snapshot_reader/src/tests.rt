@@ -31,6 +31,44 @@ fn repeated(alloc: Global, count: usize) -> Result<Vec<u8>, Memory> {
     Ok(line)
 }
 
+/// The word of the cause, and its name.
+fn told(fault: &SnapFault) -> (&str, &[u8]) {
+    match fault {
+        SnapFault::Malformed => ("malformed", b""),
+        SnapFault::Unknown(name) => ("unknown", name.bytes()),
+        SnapFault::WrongKind(name) => ("wrong-kind", name.bytes()),
+        SnapFault::Undeclared(name) => ("undeclared", name.bytes()),
+        SnapFault::TooManyFacts => ("too-many-facts", b""),
+        SnapFault::Memory => ("memory", b""),
+    }
+}
+
+/// Whether the line is refused for the cause of this word and name.
+fn blames(
+    ontology: &Ontology,
+    alloc: Global,
+    form: Form,
+    line: &[u8],
+    cause: &str,
+    name: &[u8],
+) -> bool {
+    match read_snapshot(alloc, line, form, ontology) {
+        Ok(_) => false,
+        Err(fault) => {
+            let (met, at) = told(&fault);
+            met == cause && at == name
+        }
+    }
+}
+
+/// Whether the line in JSON form gives these facts.
+fn gives(ontology: &Ontology, alloc: Global, line: &[u8], facts: &[Fact]) -> bool {
+    match read_snapshot(alloc, line, Form::Json, ontology) {
+        Ok(Reading::Facts(snapshot)) => snapshot.facts() == facts,
+        _ => false,
+    }
+}
+
 #[test]
 fn reads_facts_once(rt: HostRuntime) -> Result<(), Fail> {
     let ontology = servers(rt.alloc())?;
@@ -74,19 +112,7 @@ fn names_the_first_cause(rt: HostRuntime) -> Result<(), Fail> {
         (b"Failed(s1)", "malformed", b""),
     ];
     for (line, cause, name) in cases {
-        let Err(fault) = read_snapshot(rt.alloc(), line, Form::Text, &ontology) else {
-            return Err("no fault")?;
-        };
-        let (met, at) = match &fault {
-            SnapFault::Malformed => ("malformed", b"".as_slice()),
-            SnapFault::Unknown(name) => ("unknown", name.bytes()),
-            SnapFault::WrongKind(name) => ("wrong-kind", name.bytes()),
-            SnapFault::Undeclared(name) => ("undeclared", name.bytes()),
-            SnapFault::TooManyFacts => ("too-many-facts", b"".as_slice()),
-            SnapFault::Memory => ("memory", b"".as_slice()),
-        };
-        assert_eq!(rt; met, cause);
-        assert_eq!(rt; at, name);
+        assert!(rt; blames(&ontology, rt.alloc(), Form::Text, line, cause, name));
     }
     Ok(())
 }
@@ -107,5 +133,73 @@ fn counts_repeated_facts(rt: HostRuntime) -> Result<(), Fail> {
     let more = repeated(rt.alloc(), 65_537)?;
     let reading = read_snapshot(rt.alloc(), more.as_slice(), Form::Text, &ontology);
     assert!(rt; matches!(&reading, Err(SnapFault::TooManyFacts)));
+    Ok(())
+}
+
+#[test]
+fn reads_json(rt: HostRuntime) -> Result<(), Fail> {
+    let ontology = servers(rt.alloc())?;
+    let (first, second) = (Element::Ind(IndId(0)), Element::Ind(IndId(1)));
+    let failed = [Fact::Concept(ConceptId(0), first)];
+    let runs = [Fact::Role(RoleId(0), first, second)];
+    let lines: [&[u8]; 3] = [
+        br#"{"facts":[["Failed","s1"]],"time":"t0"}"#,
+        br#"{"facts":[["Fail\u0065d","s1"]]}"#,
+        br#"{"facts":1,"facts":[["Failed","s1"]]}"#,
+    ];
+    for line in lines {
+        assert!(rt; gives(&ontology, rt.alloc(), line, failed.as_slice()));
+    }
+    let line = br#" {"facts" : [["runs", "s1", "s2"]]} "#;
+    assert!(rt; gives(&ontology, rt.alloc(), line, runs.as_slice()));
+    assert!(rt; gives(&ontology, rt.alloc(), br#"{"facts":[]}"#, &[]));
+    Ok(())
+}
+
+#[test]
+fn skips_blanks_in_json(rt: HostRuntime) -> Result<(), Fail> {
+    let ontology = servers(rt.alloc())?;
+    let blank = read_snapshot(rt.alloc(), b" \t\r\n", Form::Json, &ontology);
+    assert!(rt; matches!(&blank, Ok(Reading::Skip)));
+    Ok(())
+}
+
+#[test]
+fn names_the_first_cause_in_json(rt: HostRuntime) -> Result<(), Fail> {
+    let ontology = servers(rt.alloc())?;
+    let cases: [(&[u8], &str, &[u8]); 4] = [
+        (br#"{"facts":[["Nope","s1"]]}"#, "unknown", b"Nope"),
+        (br#"{"facts":[["runs","s1"]]}"#, "wrong-kind", b"runs"),
+        (br#"{"facts":[["Failed","s9"]]}"#, "undeclared", b"s9"),
+        (
+            br#"{"facts":[["Failed","s9"],["Nope","s1"]]}"#,
+            "unknown",
+            b"Nope",
+        ),
+    ];
+    for (line, cause, name) in cases {
+        assert!(rt; blames(&ontology, rt.alloc(), Form::Json, line, cause, name));
+    }
+    Ok(())
+}
+
+#[test]
+fn refuses_what_is_no_list_of_facts(rt: HostRuntime) -> Result<(), Fail> {
+    let ontology = servers(rt.alloc())?;
+    let lines: [&[u8]; 10] = [
+        br#"{"facts":[["Failed"]]}"#,
+        br#"{"facts":[["runs","s1","s2","s1"]]}"#,
+        br#"{"facts":[["Fa iled","s1"]]}"#,
+        br#"{"facts":[["Failed","s1"]],"facts":1}"#,
+        br#"{"facts":[],"time":"\ud800"}"#,
+        br#"{"facts":{}}"#,
+        b"{}",
+        b"[]",
+        br#"{"facts":[]} x"#,
+        b"# x",
+    ];
+    for line in lines {
+        assert!(rt; blames(&ontology, rt.alloc(), Form::Json, line, "malformed", b""));
+    }
     Ok(())
 }

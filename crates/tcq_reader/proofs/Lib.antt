@@ -9,3 +9,4 @@ pub mod Acts
 pub mod KeepsLemmas
 pub mod ReadingLemmas
 pub mod WithinLemmas
+pub mod NamedLemmas

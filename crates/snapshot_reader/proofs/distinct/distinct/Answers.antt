@@ -1,4 +1,4 @@
-use Rattle.std.proofs.Common.{◌≤◌, length, arith}
+use Rattle.std.proofs.Common.{arith}
 use Rattle.snapshot_reader.proofs.DistinctFacts.{short_distinct}
 use Rattle.snapshot_reader.proofs.distinct.distinct.Goals as goal
 

@@ -1,6 +1,5 @@
-use Rattle.std.proofs.Common.{◌≡◌, ◌<◌, ◌≤◌, sym, ap, ◌∙◌, arith, length, subst}
+use Rattle.std.proofs.Common.{◌<◌, ◌≤◌, sym, ap, ◌∙◌, arith, length, subst}
 use Rattle.std.specs.Prelude.{Some}
-use Rattle.std.proofs.lemmas.List.Elements.{same_from_all_zip}
 use Rattle.dl_syntax.specs.Snapshots.{IsSnapshot}
 use Rattle.snapshot_reader.specs.Said.{says, most_facts, distinct}
 use Rattle.snapshot_reader.specs.Cursor.{name_seen}

@@ -1,0 +1,9 @@
+pub mod Command
+pub mod Barred
+pub mod Numerals
+pub mod MeaningLemmas
+pub mod Walking
+pub mod RowsFound
+pub mod Passes
+pub mod Accepted
+pub mod Meant

@@ -1,0 +1,14 @@
+//! The words of the command line after the program's name.
+#![tactic(auto)]
+
+mod arguments;
+mod names;
+mod numbers;
+mod reading;
+mod request;
+#[cfg(test)]
+mod tests;
+mod values;
+
+pub use reading::read_words;
+pub use request::{ReportForm, Request, StreamForm, Watch, WordsFault};

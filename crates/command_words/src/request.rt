@@ -1,0 +1,46 @@
+// What the words ask for.
+
+/// Why words were refused.
+#[derive(Clone, Copy, Debug, PartialEq, Eq)]
+pub enum WordsFault {
+    /// They are the words of no command.
+    Usage,
+    /// Memory ran out.
+    Memory,
+}
+
+/// How the stream is written.
+#[derive(Clone, Copy, Debug, PartialEq, Eq)]
+pub enum StreamForm {
+    Text,
+    Json,
+}
+
+/// How the report is written.
+#[derive(Clone, Copy, Debug, PartialEq, Eq)]
+pub enum ReportForm {
+    Text,
+    Json,
+    Csv,
+}
+
+/// A watch: the names of its two files and its options.
+#[derive(Clone, Copy, Debug, PartialEq, Eq)]
+pub struct Watch<'a> {
+    pub ontology: &'a str,
+    pub queries: &'a str,
+    pub form: StreamForm,
+    pub report: ReportForm,
+    /// Whether the report tells the kept sizes.
+    pub sizes: bool,
+}
+
+/// What the words ask for.
+#[derive(Clone, Copy, Debug, PartialEq, Eq)]
+pub enum Request<'a> {
+    Watch(Watch<'a>),
+    /// Rewrites the queries of one file by the ontology of another.
+    Rewrite { ontology: &'a str, queries: &'a str },
+    /// Watches a made stream: the seed is at most 2,147,483,647, the count of snapshots at most 100,000.
+    Drill { seed: u32, count: u32 },
+}
