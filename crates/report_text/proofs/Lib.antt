@@ -1,1 +1,6 @@
 mod Pieces
+mod Plain
+mod RowTexts
+mod Verbatim
+mod ObjectTexts
+mod EventTexts

@@ -1,6 +1,5 @@
--- The lines of a report in text form.
-use Rattle.std.specs.Prelude.{◌<◌, ℕ, List, [], ◌∷◌, ◌++◌, codes, decimal, flat_map, length, slice_index_or, slice_get, Some, None}
-use Rattle.std.specs.List.{All}
+-- The lines of a report in text form, and in each form of lines.
+use Rattle.std.specs.Prelude.{ℕ, List, [], ◌∷◌, ◌++◌, codes, decimal, flat_map, slice_index_or, Some, None}
 use Rattle.std.specs.declared.option.Option.{Option}
 use Rattle.dl_syntax.specs.declared.names.IndId.{IndId}
 use Rattle.dl_syntax.specs.Ontology.{Declared}
@@ -8,16 +7,16 @@ use Rattle.tcq_syntax.specs.Tcq.{Tcq}
 use Rattle.report_text.specs.declared.item.Cause.{Cause}
 use Rattle.report_text.specs.declared.item.Cause.TheVariants.{TooLong, Malformed, Unknown, WrongKind, Undeclared, TooManyFacts, Contradiction}
 use Rattle.report_text.specs.declared.item.Item.{Item}
-use Rattle.report_text.specs.declared.item.Item.TheVariants.{Accepted, Answer, Refused, End}
+use Rattle.report_text.specs.declared.item.Item.TheVariants.{Accepted, Answer, Kept, Refused, End}
 use Rattle.report_text.specs.declared.line.LineForm.{LineForm}
 use Rattle.report_text.specs.declared.line.LineForm.TheVariants as form
-
-abbrev pub Text : Type 0
-Text = List ℕ
+pub use Rattle.report_text.specs.Names.{Text, name_of_query, query_name, IsNamed, AreNamed, HasNames, AreSpelled, IsSpelledItem}
+use Rattle.report_text.specs.Rows.{heading_row, item_row, accepted_row, answer_rows, kept_row, refused_row, end_row}
 
 -- what stands before the first line
 abbrev pub heading_text : LineForm → Text
 heading_text form.Text = []
+heading_text form.Csv = heading_row
 
 abbrev pub cause_text : Cause → Text
 cause_text TooLong = codes "too-long"
@@ -39,14 +38,6 @@ answer_text names query row = codes "answer " ++ query ++ row_text names row ++ 
 abbrev pub answers_text : List Text → Text → List (List IndId) → Text
 answers_text names query rows = flat_map (answer_text names query) rows
 
-abbrev pub name_of_query : Option Tcq → Text
-name_of_query None = []
-name_of_query (Some query) = query.name
-
--- the name of the query with this place
-abbrev pub query_name : List Tcq → ℕ → Text
-query_name queries place = name_of_query (slice_get queries place)
-
 -- words, a number, words and a number
 abbrev pub two_text : Text → ℕ → Text → ℕ → Text
 two_text before first between second = before ++ decimal first ++ between ++ decimal second ++ codes "\n"
@@ -54,26 +45,49 @@ two_text before first between second = before ++ decimal first ++ between ++ dec
 abbrev pub refused_text : ℕ → Cause → Text
 refused_text line cause = codes "line " ++ decimal line ++ codes " refused " ++ cause_text cause ++ codes "\n"
 
+-- how much a query keeps
+abbrev pub kept_text : Text → ℕ → Text
+kept_text query size = codes "kept " ++ query ++ codes " " ++ decimal size ++ codes "\n"
+
 -- the line of an item
 abbrev pub line_text : Declared → List Tcq → Item → Text
 line_text ontology queries (Accepted line number) = two_text (codes "line ") line (codes " accepted ") number
 line_text ontology queries (Answer line number query row) = answer_text ontology.individuals (query_name queries query) row
+line_text ontology queries (Kept line query size) = kept_text (query_name queries query) size
 line_text ontology queries (Refused line cause) = refused_text line cause
 line_text ontology queries (End accepted refused) = two_text (codes "end accepted ") accepted (codes " refused ") refused
 
+-- the line of an item in this form
 abbrev pub line_in : LineForm → Declared → List Tcq → Item → Text
 line_in form.Text ontology queries item = line_text ontology queries item
+line_in form.Csv ontology queries item = item_row ontology queries item
 
--- each individual of the row has a name
-abbrev pub IsNamed : Declared → List IndId → Type 0
-IsNamed ontology row = All (λ i. i.0 < length ontology.individuals) row
+-- a row tells the names of queries and causes without quotes, so they are spelled as names
+abbrev pub IsSpelledIn : LineForm → List Tcq → Item → Type 0
+IsSpelledIn form.Text queries item = Unit {0}
+IsSpelledIn form.Csv queries item = AreSpelled queries × IsSpelledItem item
 
-abbrev pub AreNamed : Declared → List (List IndId) → Type 0
-AreNamed ontology rows = All (IsNamed ontology) rows
+-- ---- the lines of each kind in this form
 
--- the numbers of names and queries that the item has exist
-abbrev pub HasNames : Declared → List Tcq → Item → Type 0
-HasNames ontology queries (Accepted line number) = Unit {0}
-HasNames ontology queries (Answer line number query row) = (query < length queries) × IsNamed ontology row
-HasNames ontology queries (Refused line cause) = Unit {0}
-HasNames ontology queries (End accepted refused) = Unit {0}
+abbrev pub accepted_in : LineForm → ℕ → ℕ → Text
+accepted_in form.Text line number = two_text (codes "line ") line (codes " accepted ") number
+accepted_in form.Csv line number = accepted_row line number
+
+abbrev pub answers_in : LineForm → List Text → ℕ → ℕ → Text → List (List IndId) → Text
+answers_in form.Text names line number query rows = answers_text names query rows
+answers_in form.Csv names line number query rows = answer_rows names line number query rows
+
+-- the line that tells a size, where there is one
+abbrev pub size_in : LineForm → ℕ → Text → Option ℕ → Text
+size_in form.Text line query None = []
+size_in form.Text line query (Some size) = kept_text query size
+size_in form.Csv line query None = []
+size_in form.Csv line query (Some size) = kept_row line size query
+
+abbrev pub refused_in : LineForm → ℕ → Cause → Text
+refused_in form.Text line cause = refused_text line cause
+refused_in form.Csv line cause = refused_row line cause
+
+abbrev pub end_in : LineForm → ℕ → ℕ → Text
+end_in form.Text accepted refused = two_text (codes "end accepted ") accepted (codes " refused ") refused
+end_in form.Csv accepted refused = end_row accepted refused

@@ -6,11 +6,8 @@ use Rattle.dl_syntax.specs.declared.queries.Atom.{Atom}
 use Rattle.dl_syntax.specs.declared.queries.Atom.TheVariants as atom
 use Rattle.dl_syntax.specs.declared.queries.Cq.{Cq}
 use Rattle.dl_syntax.specs.Ontology.{Declared}
-use Rattle.report_text.specs.Lines.{Text, two_text}
-
--- the name with this number, where there is one
-abbrev pub name_text : List Text → ℕ → Text
-name_text names number = slice_index_or names number []
+pub use Rattle.report_text.specs.Names.{Text, name_text, separated}
+use Rattle.report_text.specs.Lines.{two_text}
 
 -- a variable is told by its number, an individual by its name
 abbrev pub term_text : Declared → Term → Text
@@ -20,11 +17,6 @@ term_text ontology (Ind individual) = name_text ontology.individuals individual.
 abbrev pub atom_text : Declared → Atom → Text
 atom_text ontology (atom.Concept concept x) = name_text ontology.concepts concept.0 ++ codes "(" ++ term_text ontology x ++ codes ")"
 atom_text ontology (atom.Role role x y) = name_text ontology.roles role.0 ++ codes "(" ++ (term_text ontology x ++ codes "," ++ term_text ontology y) ++ codes ")"
-
--- the texts of the elements, with the separator before each but the first
-abbrev pub separated : {X : Type 0} → Text → (X → Text) → List X → Text
-separated separator text_of [] = []
-separated separator text_of (first ∷ rest) = text_of first ++ flat_map (λ x. separator ++ text_of x) rest
 
 -- the terms of the head, separated by a space
 abbrev pub head_text : Declared → List Term → Text

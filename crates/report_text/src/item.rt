@@ -33,6 +33,12 @@ pub enum Item {
         query: u16,
         row: Row,
     },
+    /// The query with this place keeps so much after that snapshot.
+    Kept {
+        line: u64,
+        query: u16,
+        size: u64,
+    },
     /// The line was refused.
     Refused {
         line: u64,

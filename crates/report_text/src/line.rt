@@ -1,9 +1,11 @@
 // The bytes of a report's lines, appended to a buffer that is used again.
 ghost use Rattle.std.specs.Prelude.{◌≡◌, ◌++◌, ◌<◌, All, [], length, OnOk, OnErr, IfOk, take, vec_len};
-ghost use Rattle.report_text.specs.Lines.{IsNamed, AreNamed, HasNames, cause_text, row_text, answer_text, answers_text, two_text, refused_text, line_text, line_in, heading_text};
+ghost use Rattle.report_text.specs.Names.{IsNamed, AreNamed, HasNames};
+ghost use Rattle.report_text.specs.Lines.{IsSpelledIn, cause_text, row_text, answer_text, answers_text, kept_text, two_text, refused_text, line_text, line_in, heading_text};
 
 use crate::item::{Cause, Item};
 use crate::numbers::append_number;
+use crate::row::append_item_row;
 use dl_syntax::{IndId, Kind, Memory, Ontology, Tuples};
 use std::alloc::Global;
 use tcq_syntax::Query;
@@ -11,15 +13,20 @@ use tcq_syntax::Query;
 /// How the lines of a report are written.
 #[derive(Clone, Copy, PartialEq, Eq, Debug)]
 pub enum LineForm {
+    /// Words and numbers, separated by spaces.
     Text,
+    /// Rows of five fields: line, event, number, name, detail.
+    Csv,
 }
 
 /// What stands before the first line.
+#[tactic(auto, unfolding(crate::specs::Rows::row, csv::specs::Writing::fields_text, csv::specs::Writing::is_blank))]
 pub fn heading(form: LineForm) -> &'static [u8]
     ensures { result.now ≡ heading_text form }
 {
     match form {
         LineForm::Text => b"",
+        LineForm::Csv => b"line,event,number,name,detail\n",
     }
 }
 
@@ -51,7 +58,7 @@ fn append_named(out: &mut Vec<u8>, word: &[u8], name: &[u8]) -> Result<(), Memor
 }
 
 /// Appends the names of a row, each after a space.
-fn append_row(out: &mut Vec<u8>, ontology: &Ontology, row: &[IndId]) -> Result<(), Memory>
+pub(crate) fn append_row(out: &mut Vec<u8>, ontology: &Ontology, row: &[IndId]) -> Result<(), Memory>
     requires { IsNamed ontology.now row.now }
     ensures ok { OnOk result (out.new.items ≡ out.old.items ++ row_text ontology.now.individuals row.now) }
     ensures kept { take (vec_len out.old) out.new.items ≡ out.old.items }
@@ -81,7 +88,7 @@ fn append_answer(
 }
 
 /// Appends the answers of one query. What stood before stays, also on an error.
-fn try_append_answers(
+pub(crate) fn try_append_answers(
     out: &mut Vec<u8>,
     query: &[u8],
     ontology: &Ontology,
@@ -134,8 +141,20 @@ pub(crate) fn append_two(
     out.extend_from_slice(b"\n")
 }
 
+/// Appends how much a query keeps.
+pub(crate) fn append_kept(out: &mut Vec<u8>, query: &[u8], size: u64) -> Result<(), Memory>
+    ensures ok { OnOk result (out.new.items ≡ out.old.items ++ kept_text query.now size) }
+    ensures kept { take (vec_len out.old) out.new.items ≡ out.old.items }
+{
+    out.extend_from_slice(b"kept ")?;
+    out.extend_from_slice(query)?;
+    out.extend_from_slice(b" ")?;
+    append_number(out, size)?;
+    out.extend_from_slice(b"\n")
+}
+
 /// Appends the line of a refusal.
-fn append_refused(out: &mut Vec<u8>, line: u64, cause: &Cause) -> Result<(), Memory>
+pub(crate) fn append_refused(out: &mut Vec<u8>, line: u64, cause: &Cause) -> Result<(), Memory>
     ensures ok { OnOk result (out.new.items ≡ out.old.items ++ refused_text line cause.now) }
     ensures kept { take (vec_len out.old) out.new.items ≡ out.old.items }
 {
@@ -146,8 +165,8 @@ fn append_refused(out: &mut Vec<u8>, line: u64, cause: &Cause) -> Result<(), Mem
     out.extend_from_slice(b"\n")
 }
 
-/// Appends the line of an item. What stood before stays, also on an error.
-fn try_append_line(
+/// Appends the text line of an item. What stood before stays, also on an error.
+fn append_item_text(
     out: &mut Vec<u8>,
     item: &Item,
     ontology: &Ontology,
@@ -167,10 +186,32 @@ fn try_append_line(
                 row.places(),
             )
         }
+        Item::Kept { query, size, .. } => {
+            append_kept(out, queries[*query as usize].name().bytes(), *size)
+        }
         Item::Refused { line, cause } => append_refused(out, *line, cause),
         Item::End { accepted, refused } => {
             append_two(out, b"end accepted ", *accepted, b" refused ", *refused)
         }
+    }
+}
+
+/// Appends the line of an item in this form. What stood before stays, also on an error.
+fn try_append_line(
+    out: &mut Vec<u8>,
+    item: &Item,
+    form: LineForm,
+    ontology: &Ontology,
+    queries: &[Query],
+) -> Result<(), Memory>
+    requires named { HasNames ontology.now queries.now item.now }
+    requires spelled { IsSpelledIn form queries.now item.now }
+    ensures ok { OnOk result (out.new.items ≡ out.old.items ++ line_in form ontology.now queries.now item.now) }
+    ensures kept { take (vec_len out.old) out.new.items ≡ out.old.items }
+{
+    match form {
+        LineForm::Text => append_item_text(out, item, ontology, queries),
+        LineForm::Csv => append_item_row(out, item, ontology, queries),
     }
 }
 
@@ -182,14 +223,13 @@ pub fn append_line(
     ontology: &Ontology,
     queries: &[Query],
 ) -> Result<(), Memory>
-    requires { HasNames ontology.now queries.now item.now }
+    requires named { HasNames ontology.now queries.now item.now }
+    requires spelled { IsSpelledIn form queries.now item.now }
     ensures ok { OnOk result (out.new.items ≡ out.old.items ++ line_in form ontology.now queries.now item.now) }
     ensures err { OnErr result (out.new.items ≡ out.old.items) }
 {
     let start = out.len();
-    let done = match form {
-        LineForm::Text => try_append_line(out, item, ontology, queries),
-    };
+    let done = try_append_line(out, item, form, ontology, queries);
     if done.is_err() {
         out.truncate(start);
     }
@@ -204,7 +244,8 @@ pub fn render_line(
     ontology: &Ontology,
     queries: &[Query],
 ) -> Result<Vec<u8>, Memory>
-    requires { HasNames ontology.now queries.now item.now }
+    requires named { HasNames ontology.now queries.now item.now }
+    requires spelled { IsSpelledIn form queries.now item.now }
     ensures { IfOk result (λ line. line.items ≡ line_in form ontology.now queries.now item.now) }
 {
     let mut line = Vec::new(alloc);

@@ -1,7 +1,11 @@
-//! The line of a conjunctive query.
-use crate::render_cq;
-use dl_syntax::{Atom, Cq, Items, Kind, Memory, Ontology, RoleId, Term};
+//! The exact bytes of each kind of line, and of a conjunctive query.
+use crate::{
+    Cause, Event, Item, LineForm, ReportForm, append_event, append_line, heading, render_cq, render_line,
+    render_object, report_heading,
+};
+use dl_syntax::{Atom, Cq, IndId, Items, Kind, Memory, Name, Ontology, RoleId, Row, Term, Tuples};
 use std::alloc::Global;
+use tcq_syntax::{Node, Query};
 
 /// The query with the head ?v0 and one atom of the first role.
 fn partners(alloc: Global) -> Result<Cq, Memory> {

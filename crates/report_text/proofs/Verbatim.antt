@@ -1,0 +1,50 @@
+-- Strings that need no escapes.
+use Rattle.std.proofs.Common.{◌≡◌, ◌∙◌, ℕ, ◌<◌, List, [], ◌∷◌, ◌++◌, Bool, true, false, ap, refl, arith, sym, length}
+use Rattle.std.specs.Prelude.{codes, IsTrue, flat_map}
+use Rattle.std.specs.List.{All}
+use Rattle.std.proofs.lemmas.Bool.Decides.{nat_tests}
+use Rattle.std.proofs.lemmas.List.Elements.{All-head, All-tail, All-get_or}
+use Rattle.json.specs.Print.{escape, escape_byte}
+use Rattle.serde_json.specs.Data.{string}
+use Rattle.serde_json.specs.Written.{compact_text}
+use Rattle.dl_syntax.specs.Names.{IsName, is_letter, is_name_byte}
+use Rattle.report_text.specs.declared.item.Cause.{Cause}
+use Rattle.report_text.specs.declared.item.Cause.TheVariants.{TooLong, Malformed, Unknown, WrongKind, Undeclared, TooManyFacts, Contradiction}
+use Rattle.report_text.specs.Names.{Text}
+use Rattle.report_text.specs.Rows.{cause_word}
+use Rattle.report_text.specs.Objects.{IsVerbatim, value_text}
+
+name_byte_escapes : (b : ℕ) → IsTrue (is_name_byte b) → escape_byte b ≡ b ∷ []
+unfolding escape_byte
+name_byte_escapes b in_names = grind (arith, nat_tests)
+
+letter_escapes : (b : ℕ) → IsTrue (is_letter b) → escape_byte b ≡ b ∷ []
+unfolding escape_byte
+letter_escapes b letter = grind (arith, nat_tests)
+
+rest_escapes : (rest : Text) → All (λ b. IsTrue (is_name_byte b)) rest → escape rest ≡ rest
+rest_escapes [] all = refl
+rest_escapes (b ∷ rest) all =
+    let one = name_byte_escapes b (All-head (λ b. IsTrue (is_name_byte b)) b rest all) in
+    ap (λ t. t ++ escape rest) one ∙ ap (λ t. b ∷ t) (rest_escapes rest (All-tail (λ b. IsTrue (is_name_byte b)) b rest all))
+
+name_escapes : (name : Text) → IsName name → escape name ≡ name
+name_escapes [] none = absurd none
+name_escapes (first ∷ rest) is = ap (λ t. t ++ escape rest) (letter_escapes first is.0) ∙ ap (λ t. first ∷ t) (rest_escapes rest is.1)
+
+pub name_is_verbatim : (name : Text) → IsName name → IsVerbatim name
+name_is_verbatim name is = ap (λ t. 34 ∷ (t ++ 34 ∷ [])) (name_escapes name is)
+
+pub word_is_verbatim : (cause : Cause) → IsVerbatim (cause_word cause)
+unfolding escape_byte
+word_is_verbatim TooLong = refl
+word_is_verbatim Malformed = refl
+word_is_verbatim (Unknown name) = refl
+word_is_verbatim (WrongKind name) = refl
+word_is_verbatim (Undeclared name) = refl
+word_is_verbatim TooManyFacts = refl
+word_is_verbatim (Contradiction clash) = refl
+
+pub verbatim_text : (text : Text) → IsVerbatim text → codes "\"" ++ text ++ codes "\"" ≡ value_text (string text)
+unfolding value_text
+verbatim_text text verbatim = sym verbatim
