@@ -1,9 +1,11 @@
 mod Runs
+mod UnitRuns
 mod Aligning
 mod Numbers
 mod Views
 mod Renamings
 mod Combinations
+mod Constants
 mod Ranks
 mod Counting
 mod Substitutions

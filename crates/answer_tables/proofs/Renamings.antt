@@ -52,6 +52,19 @@ AreRenamed-end places runs new i renaming past =
       named = renaming.named;
     }
 
+-- where each number is its own place, nothing changes
+pub AreRenamed-same : (places : List ℕ) (runs new : List Run) → new ≡ runs → RiseFrom 0 runs → NamedBelow (length places) runs → ((i : ℕ) → i < length places → slice_index places i ≡ i) → AreRenamed places runs new
+AreRenamed-same places runs new is rise all own = subst (AreRenamed places runs) (sym is) (record {
+  rise = rise;
+  ends = refl;
+  same = λ n below. sym (own (link_at runs n) (link_at-named 0 runs (length places) n all (omega arith) below));
+  named = λ limit small k d within.
+      let number : ℕ = (get_or runs k d).link in
+      let inside : number < length places = all k d within in
+      let place : slice_index places number < limit = small number inside in
+      omega (arith, place, own number inside);
+})
+
 -- one more link among those that were given
 one_place : (once : List (List ℕ)) (p q : ℕ) (x : List ℕ) → AreDistinct once → slice_get once p ≡ Some x → slice_get once q ≡ Some x → p ≡ q
 one_place once p q x distinct at_p at_q = go (cases_lt p q) (cases_lt q p)

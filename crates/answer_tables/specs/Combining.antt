@@ -24,6 +24,11 @@ pub record AreCombined (test : Bool → Bool → Bool) (a b : List (List ℕ)) (
   pub many : length links ≡ length joints
   pub each : (i : ℕ) → i < length joints → Combines test (slice_index_or a (joint_at joints i).first []) (slice_index_or b (joint_at joints i).second []) (slice_index_or links i [])
 
+-- each chain is the combination of one of a list with the other chain
+pub record AreCombinedWith (test : Bool → Bool → Bool) (chains : List (List ℕ)) (other : List ℕ) (links : List (List ℕ)) : Type 0 where
+  pub many : length links ≡ length chains
+  pub each : (i : ℕ) → i < length chains → Combines test (slice_index_or chains i []) other (slice_index_or links i [])
+
 -- the numbers of each joint tell links of the two lists
 abbrev pub JointsWithin : ℕ → ℕ → List Joint → Type 0
 JointsWithin first second joints = All (λ j. (j.first < first) × (j.second < second)) joints

@@ -1,5 +1,5 @@
 -- Numbers for all ranks below an end, as runs of equal ones.
-use Rattle.std.specs.Prelude.{◌≡◌, ℕ, ◌<◌, ◌≤◌, nat_lt, if◌then◌else◌, List, [], ◌∷◌, All}
+use Rattle.std.specs.Prelude.{◌≡◌, ℕ, suc, ◌<◌, ◌≤◌, nat_lt, if◌then◌else◌, List, [], ◌∷◌, All}
 use Rattle.answer_tables.specs.declared.run.Run.{Run}
 
 -- the number at a rank is that of the first run that ends above it
@@ -11,6 +11,11 @@ link_at (r ∷ rs) n = (if nat_lt n r.end then r.link else link_at rs n)
 abbrev pub end_from : ℕ → List Run → ℕ
 end_from start [] = start
 end_from start (r ∷ rs) = end_from r.end rs
+
+-- a run of one rank for each number, from a rank on
+abbrev pub unit_runs : ℕ → List ℕ → List Run
+unit_runs start [] = []
+unit_runs start (n ∷ ns) = (record { end = suc start; link = n }) ∷ unit_runs (suc start) ns
 
 -- each run ends above its beginning
 abbrev pub RiseFrom : ℕ → List Run → Type 0

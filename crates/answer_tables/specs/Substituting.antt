@@ -1,5 +1,5 @@
 -- The values of a table's nodes put in their places, tuple by tuple.
-use Rattle.std.specs.Prelude.{◌≡◌, ℕ, ◌<◌, ◌^◌, List, [], length, map, All, slice_index_or}
+use Rattle.std.specs.Prelude.{◌≡◌, ◌⊎◌, ◌∷◌, ℕ, ◌<◌, ◌^◌, List, [], length, map, All, slice_index_or}
 use Rattle.dl_syntax.specs.declared.names.IndId.{IndId}
 use Rattle.antichains.specs.Sets.{holds}
 use Rattle.antichains.specs.Chain.{IsMinimal, values_at}
@@ -9,6 +9,10 @@ use Rattle.answer_tables.specs.Runs.{link_at, end_from, RiseFrom, NamedBelow}
 use Rattle.answer_tables.specs.Joint.{joint_at}
 use Rattle.answer_tables.specs.Tuples.{IsTuple, number}
 use Rattle.answer_tables.specs.Table.{Chains, at}
+
+-- the chain holds at no set or at every one
+abbrev pub HasNoNode : List ℕ → Type 0
+HasNoNode chain = (chain ≡ []) ⊎ (chain ≡ 0 ∷ [])
 
 -- the tables have one shape
 abbrev pub HaveShape : ℕ → ℕ → List Chains → Type 0

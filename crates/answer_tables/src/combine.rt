@@ -8,7 +8,7 @@ ghost use Rattle.antichains.specs.Chain.{IsMinimal};
 ghost use Rattle.formula_store.specs.Interned.{Extends};
 ghost use Rattle.answer_tables.specs.Tuples.{IsTuple};
 ghost use Rattle.answer_tables.specs.Table.{at};
-ghost use Rattle.answer_tables.specs.Combining.{test_of, Combines, AreCombined, JointsWithin, LinksAreIn};
+ghost use Rattle.answer_tables.specs.Combining.{test_of, Combines, AreCombined, AreCombinedWith, JointsWithin, LinksAreIn};
 
 use crate::Memory;
 use crate::align::{Joint, align};
@@ -62,7 +62,79 @@ fn combined_links(
     Ok(links)
 }
 
-/// The table of the combined chains.
+/// The combination of each of the links with one.
+fn combined_each(
+    alloc: Global,
+    operation: Operation,
+    links: &[Link],
+    other: &Link,
+    store: &mut Store,
+) -> Result<Vec<Link>, Memory>
+    ensures links { IfOk result (λ all. AreCombinedWith (test_of operation) links.now other.now all.items) }
+    ensures stored { IfOk result (λ all. All (Contains store.new) all.items) }
+    ensures grown { Extends store.old store.new }
+{
+    let mut all = Vec::new(alloc);
+    for link in links {
+        let combined = combined_link(operation, link, other, store)?;
+        all.push(combined)?;
+    }
+    Ok(all)
+}
+
+/// The table of the chains combined with one, which has the ranks of the table that is given.
+fn combine_with(
+    alloc: Global,
+    operation: Operation,
+    table: &Table,
+    other: &Link,
+    store: &mut Store,
+) -> Result<Table, Memory>
+    ensures slots { IfOk result (λ t. t.slots ≡ table.now.slots) }
+    ensures arity { IfOk result (λ t. t.arity ≡ table.now.arity) }
+    ensures each { IfOk result (λ t. (tuple : List IndId) → IsTuple table.now.slots table.now.arity tuple → Combines (test_of operation) (at table.now tuple) other.now (at t tuple)) }
+    ensures stored { IfOk result (λ t. LinksAreIn t store.new) }
+    ensures grown { Extends store.old store.new }
+{
+    let links = combined_each(alloc, operation, table.links.as_slice(), other, store)?;
+    Table::from_ranking(
+        alloc,
+        table.slots,
+        table.arity,
+        links.as_slice(),
+        &table.ranks,
+    )
+}
+
+/// The table of the combined chains, where both tables are read rank by rank.
+fn combine_ranks(
+    alloc: Global,
+    operation: Operation,
+    a: &Table,
+    b: &Table,
+    store: &mut Store,
+) -> Result<Table, Memory>
+    requires slots { a.now.slots ≡ b.now.slots }
+    requires arity { a.now.arity ≡ b.now.arity }
+    ensures slots { IfOk result (λ t. t.slots ≡ a.now.slots) }
+    ensures arity { IfOk result (λ t. t.arity ≡ a.now.arity) }
+    ensures each { IfOk result (λ t. (tuple : List IndId) → IsTuple a.now.slots a.now.arity tuple → Combines (test_of operation) (at a.now tuple) (at b.now tuple) (at t tuple)) }
+    ensures stored { IfOk result (λ t. LinksAreIn t store.new) }
+    ensures grown { Extends store.old store.new }
+{
+    let aligned = align(alloc, a.ranks.as_ref(), b.ranks.as_ref())?;
+    let links = combined_links(
+        alloc,
+        operation,
+        a.links.as_slice(),
+        b.links.as_slice(),
+        aligned.joints.as_slice(),
+        store,
+    )?;
+    Table::from_ranking(alloc, a.slots, a.arity, links.as_slice(), &aligned.ranks)
+}
+
+/// The table of the combined chains. Where one table has one chain, no rank is read.
 fn combine(
     alloc: Global,
     operation: Operation,
@@ -78,22 +150,13 @@ fn combine(
     ensures stored { IfOk result (λ t. LinksAreIn t store.new) }
     ensures grown { Extends store.old store.new }
 {
-    let aligned = align(alloc, a.runs.as_slice(), b.runs.as_slice())?;
-    let links = combined_links(
-        alloc,
-        operation,
-        a.links.as_slice(),
-        b.links.as_slice(),
-        aligned.joints.as_slice(),
-        store,
-    )?;
-    Table::from_parts(
-        alloc,
-        a.slots,
-        a.arity,
-        links.as_slice(),
-        aligned.runs.as_slice(),
-    )
+    if b.links.len() == 1 {
+        return combine_with(alloc, operation, a, &b.links[0], store);
+    }
+    if a.links.len() == 1 {
+        return combine_with(alloc, operation, b, &a.links[0], store);
+    }
+    combine_ranks(alloc, operation, a, b, store)
 }
 
 /// The chains that hold where either table's do.

@@ -80,7 +80,8 @@ impl Table {
     {
         let mut rows = Tuples::new(alloc, self.arity);
         let mut start = 0;
-        for run in &self.runs {
+        for place in 0..self.ranks.len() {
+            let run = self.ranks.run(place);
             if holds(self.links[run.link].chain(), set) {
                 push_tuples(alloc, self.slots, start, run.end, &mut rows)?;
             }

@@ -7,6 +7,7 @@ mod counts;
 mod holding;
 mod links;
 mod marks;
+mod ranking;
 mod renaming;
 mod run;
 mod spread;

@@ -26,13 +26,14 @@ impl Table {
         ensures exact { IfOk result (λ links. (chain : List ℕ) → Contains links.items chain ↔ HasChain self.now chain) }
     {
         let mut links = Vec::new(alloc);
-        if self.runs.is_empty() {
+        if self.ranks.len() == 0 {
             return Ok(links);
         }
-        let usual = self.runs[0].link;
+        let usual = self.ranks.run(0).link;
         links.push(self.links[usual].copy()?)?;
         let mut start = 0;
-        for run in &self.runs {
+        for place in 0..self.ranks.len() {
+            let run = self.ranks.run(place);
             if run.link != usual {
                 push_copies(&mut links, &self.links[run.link], run.end - start)?;
             }

@@ -1,6 +1,6 @@
 //! Runs of tuples with one link.
 
-ghost use Rattle.std.specs.Prelude.{◌≡◌, ℕ, ◌<◌, ◌≤◌, OnOk, length};
+ghost use Rattle.std.specs.Prelude.{◌≡◌, ℕ, ◌<◌, ◌≤◌, OnErr, OnOk, length};
 ghost use Rattle.answer_tables.specs.Runs.{Extended, RiseFrom, end_from, link_at};
 
 use crate::Memory;
@@ -12,11 +12,20 @@ pub struct Run {
     pub link: usize,
 }
 
+/// Where the runs end.
+pub fn end_of(runs: &[Run]) -> u64
+    ensures { result ≡ end_from 0 runs.now }
+{
+    let count = runs.len();
+    if count == 0 { 0 } else { runs[count - 1].end }
+}
+
 /// Gives the next ranks, up to the run's end, its link.
 pub fn extend(runs: &mut Vec<Run>, run: Run) -> Result<(), Memory>
     requires rise { RiseFrom 0 runs.old.items }
     requires more { end_from 0 runs.old.items < run.end }
-    ensures { OnOk result (Extended runs.old.items run runs.new.items) }
+    ensures ok { OnOk result (Extended runs.old.items run runs.new.items) }
+    ensures err { OnErr result (runs.new.items ≡ runs.old.items) }
 {
     let count = runs.len();
     if count > 0 && runs[count - 1].link == run.link {

@@ -1,6 +1,6 @@
 //! The values of a table's nodes put in their places, tuple by tuple.
 
-ghost use Rattle.std.specs.Prelude.{◌≡◌, ◌<◌, ◌^◌, List, IfOk, length, map};
+ghost use Rattle.std.specs.Prelude.{◌≡◌, true, ◌<◌, ◌^◌, List, IfOk, length, map};
 ghost use Rattle.std.specs.List.{All, Contains};
 ghost use Rattle.dl_syntax.specs.declared.names.IndId.{IndId};
 ghost use Rattle.antichains.specs.Sets.{holds};
@@ -10,7 +10,7 @@ ghost use Rattle.answer_tables.specs.Tuples.{IsTuple, number};
 ghost use Rattle.answer_tables.specs.Table.{at};
 ghost use Rattle.answer_tables.specs.Joint.{joint_at};
 ghost use Rattle.answer_tables.specs.Combining.{LinksAreIn};
-ghost use Rattle.answer_tables.specs.Substituting.{HaveShape, Substitutes, TellAll, AreSubstituted, chains_at};
+ghost use Rattle.answer_tables.specs.Substituting.{HaveShape, HasNoNode, Substitutes, TellAll, AreSubstituted, chains_at};
 
 use crate::Memory;
 use crate::align::{Aligned, Joint, align};
@@ -21,11 +21,11 @@ use std::alloc::Global;
 /// All tables at once: where the runs have one number, each table has one chain.
 fn align_all(alloc: Global, table: &Table, values: &[Table]) -> Result<Aligned, Memory>
     requires { HaveShape table.now.slots table.now.arity values.now }
-    ensures { IfOk result (λ a. TellAll table.now.slots table.now.arity table.now values.now a.runs.items a.joints.items) }
+    ensures { IfOk result (λ a. TellAll table.now.slots table.now.arity table.now values.now a.ranks.value a.joints.items) }
 {
-    let mut aligned = align(alloc, table.runs.as_slice(), table.runs.as_slice())?;
+    let mut aligned = align(alloc, table.ranks.as_ref(), table.ranks.as_ref())?;
     for value in values {
-        aligned = align(alloc, aligned.runs.as_slice(), value.runs.as_slice())?;
+        aligned = align(alloc, aligned.ranks.as_ref(), value.ranks.as_ref())?;
     }
     Ok(aligned)
 }
@@ -83,6 +83,82 @@ fn substituted_links(
     Ok(links)
 }
 
+/// Whether no chain has a node: each holds at every set or at none.
+fn have_no_nodes(links: &[Link]) -> bool
+    ensures { result ≡ true → All HasNoNode links.now }
+{
+    for link in links {
+        if !has_no_node(link) {
+            return false;
+        }
+    }
+    true
+}
+
+/// Whether a chain has no node.
+fn has_no_node(link: &Link) -> bool
+    ensures { result ≡ true → HasNoNode link.now }
+{
+    let sets = link.chain().sets();
+    sets.is_empty() || (sets.len() == 1 && sets[0] == 0)
+}
+
+/// Links of the same chains that are in the store.
+fn stored_links(alloc: Global, links: &[Link], store: &mut Store) -> Result<Vec<Link>, Memory>
+    ensures same { IfOk result (λ all. all.items ≡ links.now) }
+    ensures stored { IfOk result (λ all. All (Contains store.new) all.items) }
+    ensures grown { Extends store.old store.new }
+{
+    let mut all = Vec::new(alloc);
+    for link in links {
+        let chain = link.chain().copy()?;
+        let stored = store.intern(chain)?;
+        all.push(stored)?;
+    }
+    Ok(all)
+}
+
+/// An equal table, whose links are in the store.
+fn stored_table(alloc: Global, table: &Table, store: &mut Store) -> Result<Table, Memory>
+    ensures same { IfOk result (λ t. t ≡ table.now) }
+    ensures stored { IfOk result (λ t. LinksAreIn t store.new) }
+    ensures grown { Extends store.old store.new }
+{
+    let links = stored_links(alloc, table.links.as_slice(), store)?;
+    Table::from_ranking(
+        alloc,
+        table.slots,
+        table.arity,
+        links.as_slice(),
+        &table.ranks,
+    )
+}
+
+/// Each tuple's substituted chain, where all tables are read rank by rank.
+fn substitute_ranks(
+    alloc: Global,
+    table: &Table,
+    values: &[Table],
+    store: &mut Store,
+) -> Result<Table, Memory>
+    requires { HaveShape table.now.slots table.now.arity values.now }
+    ensures slots { IfOk result (λ t. t.slots ≡ table.now.slots) }
+    ensures arity { IfOk result (λ t. t.arity ≡ table.now.arity) }
+    ensures each { IfOk result (λ t. (tuple : List IndId) → IsTuple table.now.slots table.now.arity tuple → IsMinimal (λ v. holds (at table.now tuple) (values_at (map (λ x. at x tuple) values.now) v)) (at t tuple)) }
+    ensures stored { IfOk result (λ t. LinksAreIn t store.new) }
+    ensures grown { Extends store.old store.new }
+{
+    let aligned = align_all(alloc, table, values)?;
+    let links = substituted_links(alloc, table, values, aligned.joints.as_slice(), store)?;
+    Table::from_ranking(
+        alloc,
+        table.slots,
+        table.arity,
+        links.as_slice(),
+        &aligned.ranks,
+    )
+}
+
 /// Each tuple's chain with the nodes replaced by their values at the tuple: `values[b]` has those
 /// of the node numbered `b`, and a node without a value is false.
 pub fn substitute_all(
@@ -98,13 +174,8 @@ pub fn substitute_all(
     ensures stored { IfOk result (λ t. LinksAreIn t store.new) }
     ensures grown { Extends store.old store.new }
 {
-    let aligned = align_all(alloc, table, values)?;
-    let links = substituted_links(alloc, table, values, aligned.joints.as_slice(), store)?;
-    Table::from_parts(
-        alloc,
-        table.slots,
-        table.arity,
-        links.as_slice(),
-        aligned.runs.as_slice(),
-    )
+    if have_no_nodes(table.links.as_slice()) {
+        return stored_table(alloc, table, store);
+    }
+    substitute_ranks(alloc, table, values, store)
 }

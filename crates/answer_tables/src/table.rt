@@ -6,12 +6,14 @@ ghost use Rattle.answer_tables.specs.Tuples.{IsTuple, number};
 ghost use Rattle.answer_tables.specs.Table.{Chains, AreRuns, AreUsed, HasChain, at, view_of};
 
 use crate::Memory;
-use crate::renaming::{copies, each_once, renamed};
-use crate::run::{Run, link_of};
+use crate::ranking::Ranking;
+use crate::renaming::{copies, each_once, renamed, renumbered};
+use crate::run::Run;
 use dl_syntax::IndId;
 use formula_store::Link;
 use std::alloc::Global;
 use std::marker::Model;
+use std::rc::Rc;
 
 /// A chain for each tuple of so many individuals below a number of slots.
 #[derive(Drop)]
@@ -19,7 +21,7 @@ pub struct Table {
     pub(crate) slots: u32,
     pub(crate) arity: u8,
     pub(crate) links: Vec<Link>,
-    pub(crate) runs: Vec<Run>,
+    pub(crate) ranks: Rc<Ranking>,
 }
 
 impl Model for Table {
@@ -27,9 +29,9 @@ impl Model for Table {
 
     ghost Value = { Chains };
 
-    ghost view = { λ t. view_of t.slots t.arity t.links.items t.runs.items };
+    ghost view = { λ t. view_of t.slots t.arity t.links.items t.ranks.value };
 
-    ghost invariant = { λ t. IsTable t.slots t.arity t.links.items t.runs.items };
+    ghost invariant = { λ t. IsTable t.slots t.arity t.links.items t.ranks.value };
 }
 
 /// How many tuples come before this one.
@@ -82,12 +84,35 @@ impl Table {
         ensures { IfOk result (λ t. t ≡ view_of slots arity links.now runs.now) }
     {
         let once = each_once(alloc, links)?;
-        let runs = renamed(alloc, runs, once.places.as_slice())?;
+        let ranks = renamed(alloc, runs, once.places.as_slice())?;
+        let ranks = Rc::new(alloc, ranks)?;
         Ok(Table {
             slots,
             arity,
             links: once.links,
-            runs,
+            ranks,
+        })
+    }
+
+    /// The table of numbers for all ranks, which it shares where no chain is there twice.
+    pub(crate) fn from_ranking(
+        alloc: Global,
+        slots: u32,
+        arity: u8,
+        links: &[Link],
+        ranks: &Rc<Ranking>,
+    ) -> Result<Table, Memory>
+        requires are { AreRuns slots arity links.now ranks.now.value }
+        requires used { AreUsed (slots ^ arity) (length links.now) ranks.now.value }
+        ensures { IfOk result (λ t. t ≡ view_of slots arity links.now ranks.now.value) }
+    {
+        let once = each_once(alloc, links)?;
+        let ranks = renumbered(alloc, ranks, once.places.as_slice())?;
+        Ok(Table {
+            slots,
+            arity,
+            links: once.links,
+            ranks,
         })
     }
 
@@ -111,7 +136,7 @@ impl Table {
         ensures { result.now ≡ at self.now tuple.now }
     {
         let rank = number_of(self.slots, tuple);
-        &self.links[link_of(self.runs.as_slice(), rank)]
+        &self.links[self.ranks.link_of(rank)]
     }
 
     /// The chain of the tuple with a number.
@@ -119,14 +144,14 @@ impl Table {
         requires { rank < self.now.slots ^ self.now.arity }
         ensures { (tuple : List IndId) → IsTuple self.now.slots self.now.arity tuple → number self.now.slots tuple ≡ rank → result.now ≡ at self.now tuple }
     {
-        &self.links[link_of(self.runs.as_slice(), rank)]
+        &self.links[self.ranks.link_of(rank)]
     }
 
     /// The default, which is absent exactly where there is no tuple, and is the chain of some tuple.
     pub fn usual(&self) -> Option<&Link>
         ensures { MatchOption result (self.now.slots ^ self.now.arity ≡ 0) (λ l. HasChain self.now l.now) }
     {
-        if self.runs.is_empty() {
+        if self.ranks.len() == 0 {
             None
         } else {
             Some(self.at_rank(0))
@@ -141,17 +166,17 @@ impl Table {
         self.links.as_slice()
     }
 
-    /// An equal table.
+    /// An equal table, which shares its ranks.
     pub fn copy(&self) -> Result<Table, Memory>
         ensures { IfOk result (λ t. t ≡ self.now) }
     {
         let links = copies(*self.links.allocator(), self.links.as_slice())?;
-        let runs = self.runs.clone()?;
+        let ranks = self.ranks.clone()?;
         Ok(Table {
             slots: self.slots,
             arity: self.arity,
             links,
-            runs,
+            ranks,
         })
     }
 }

@@ -190,3 +190,50 @@ fn has_no_default_without_tuples(rt: HostRuntime) {
     assert!(rt; table.usual().is_none());
     assert!(rt; table.distinct_links().is_empty());
 }
+
+// The table over triples of four individuals that is true where the last is 0, so that its runs are short.
+fn last_is_zero(alloc: Global) -> Result<Table, Memory>
+    ensures slots { IfOk result (λ t. t.slots ≡ 4) }
+    ensures arity { IfOk result (λ t. t.arity ≡ 3) }
+{
+    let rows = zero_row(alloc)?;
+    let mut store = Store::new(alloc);
+    from_tuples(alloc, 4, 3, &[2], &rows, &mut store)
+}
+
+// The table over triples of four individuals that is true where the middle is 0.
+fn middle_is_zero(alloc: Global) -> Result<Table, Memory>
+    ensures slots { IfOk result (λ t. t.slots ≡ 4) }
+    ensures arity { IfOk result (λ t. t.arity ≡ 3) }
+{
+    let rows = zero_row(alloc)?;
+    let mut store = Store::new(alloc);
+    from_tuples(alloc, 4, 3, &[1], &rows, &mut store)
+}
+
+// Whether the table is true at a triple.
+fn is_true(table: &Table, first: u32, middle: u32, last: u32) -> bool
+    requires first { first < table.now.slots }
+    requires middle { middle < table.now.slots }
+    requires last { last < table.now.slots }
+    requires three { table.now.arity ≡ 3 }
+{
+    let triple = [IndId(first), IndId(middle), IndId(last)];
+    table.get(&triple).chain().sets() == [0].as_slice()
+}
+
+#[test]
+fn combines_short_runs(rt: HostRuntime) {
+    let a = last_is_zero(rt.alloc()).expect(&rt, "memory");
+    let b = middle_is_zero(rt.alloc()).expect(&rt, "memory");
+    let mut store = Store::new(rt.alloc());
+    let either = combine_or(rt.alloc(), &a, &b, &mut store).expect(&rt, "memory");
+    for first in 0..4 {
+        for middle in 0..4 {
+            for last in 0..4 {
+                let wanted = middle == 0 || last == 0;
+                assert!(rt; is_true(&either, first, middle, last) == wanted);
+            }
+        }
+    }
+}

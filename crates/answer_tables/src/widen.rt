@@ -36,9 +36,10 @@ impl Table {
         ensures old { IfOk result (λ t. (tuple : List IndId) → IsTuple self.now.slots self.now.arity tuple → at t tuple ≡ at self.now tuple) }
     {
         let weights = weights_of_places(alloc, self.slots, self.arity)?;
+        let old = self.ranks.runs(alloc)?;
         let mut runs = Vec::new(alloc);
         spread(
-            self.runs.as_slice(),
+            old.as_slice(),
             weights.as_slice(),
             self.arity,
             self.slots + 1,

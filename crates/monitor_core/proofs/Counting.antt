@@ -11,8 +11,9 @@ use Rattle.perfect_ref.specs.Plain.{Encoded, Reachable, Lists, HoldsOf, HoldsOfM
 use Rattle.consistency.specs.Asking.{query_of}
 use Rattle.consistency.specs.Reached.{ReachInAll, ReachMoreInAll, HasAllReached, HasSomeReached}
 use Rattle.monitor_core.specs.declared.plan.Leaf.{Leaf}
-use Rattle.monitor_core.specs.Planning.{IsLeafOf}
-use Rattle.monitor_core.specs.Opening.{AreReached, ReachMore, ReachAll, Gathers}
+use Rattle.monitor_core.specs.Planning.{IsAskedAt}
+use Rattle.monitor_core.specs.Opening.{AreReached, ReachMore, ReachAll, KeepsLeaves, Gathers}
+use Rattle.monitor_core.proofs.Placing.{all_asked_kept}
 
 split : {X : Type 0} (xs : List X) (x : X) → Contains xs x → (front : List X) × (back : List X) × (xs ≡ front ++ x ∷ back)
 split {X = X} [] x there = absurd (Contains-none x there)
@@ -158,8 +159,8 @@ module _ (e : Encoded) where
   more_clashes clashes room more = record { lists = more.lists; each = clashes_some clashes more.lists more.each; more = more.more }
 
   -- the leaves with one more
-  pub gathers_more : (front : List Cq) (leaves new : List Leaf) (reached count : ℕ) (q : Cq) (leaf : Leaf) → Gathers e front leaves reached → new ≡ leaves ++ leaf ∷ [] → IsLeafOf e q leaf → HoldsOf (Reachable e q) count → Gathers e (front ++ q ∷ []) new (reached + count)
-  gathers_more front leaves new reached count q leaf gathered new_is is holds = record {
-    each = subst (AllZip (IsLeafOf e) (front ++ q ∷ [])) (sym new_is) (joined (IsLeafOf e) front (q ∷ []) leaves (leaf ∷ []) gathered.each (is, tt));
+  pub gathers_more : (front : List Cq) (leaves after : List Leaf) (places new : List ℕ) (reached count : ℕ) (q : Cq) (place : ℕ) → Gathers e front leaves places reached → KeepsLeaves leaves after → new ≡ places ++ place ∷ [] → IsAskedAt e after q place → HoldsOf (Reachable e q) count → Gathers e (front ++ q ∷ []) after new (reached + count)
+  gathers_more front leaves after places new reached count q place gathered kept new_is is holds = record {
+    each = subst (AllZip (IsAskedAt e after) (front ++ q ∷ [])) (sym new_is) (joined (IsAskedAt e after) front (q ∷ []) places (place ∷ []) (all_asked_kept e leaves after kept front places gathered.each) (is, tt));
     all = all_joined front (q ∷ []) reached count gathered.all (all_one q count holds);
   }

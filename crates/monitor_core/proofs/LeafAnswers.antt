@@ -2,7 +2,7 @@
 use Rattle.std.proofs.Common.{◌≡◌, List, [], ◌∷◌, length, sym, ◌∙◌, ap, subst}
 use Rattle.std.specs.Prelude.{◌↔◌}
 use Rattle.std.specs.List.{All, AllZip, Contains}
-use Rattle.std.proofs.lemmas.List.Elements.{All-nil, All-cons, All-head, All-tail, All-weaker, All-contains}
+use Rattle.std.proofs.lemmas.List.Elements.{All-head, All-tail, All-weaker, All-contains}
 use Rattle.dl_syntax.specs.declared.names.IndId.{IndId}
 use Rattle.dl_syntax.specs.declared.facts.Fact.{Fact}
 use Rattle.dl_syntax.specs.declared.ontology.Inclusion.{Inclusion}
@@ -26,7 +26,7 @@ use Rattle.perfect_ref.proofs.Answering.{Steps-query, answers_of_core}
 use Rattle.ucq_join.specs.Answers.{IsUnionAnswer}
 use Rattle.progression.specs.Kept.{AreCertain}
 use Rattle.monitor_core.specs.declared.plan.Leaf.{Leaf}
-use Rattle.monitor_core.specs.Planning.{IsLeafOf}
+use Rattle.monitor_core.specs.Planning.{IsLeaf, IsLeafOf, AreLeaves}
 use Rattle.monitor_core.specs.Leaves.{AsksWell, AreUnionAnswers}
 
 -- the core holds queries within the limits, with heads as long
@@ -40,12 +40,12 @@ leaf_asks_well e q leaf query is = record {
   heads = All-weaker (PlainCore e q) (λ (y : Cq). length y.head ≡ leaf.arity) (λ y h. (core_query e.inclusions q y query h.0).1 ∙ sym is.arity) leaf.core.items is.core.sound;
 }
 
-pub all_ask_well : (e : Encoded) (qs : List Cq) (leaves : List Leaf) → All IsQuery qs → AllZip (IsLeafOf e) qs leaves → All AsksWell leaves
-all_ask_well e [] [] queries are = All-nil AsksWell
-all_ask_well e [] (leaf ∷ leaves) queries are = absurd are
-all_ask_well e (q ∷ qs) [] queries are = absurd are
-all_ask_well e (q ∷ qs) (leaf ∷ leaves) queries are =
-    All-cons AsksWell leaf leaves (leaf_asks_well e q leaf (All-head IsQuery q qs queries) are.0) (all_ask_well e qs leaves (All-tail IsQuery q qs queries) are.1)
+pub all_ask_well : (e : Encoded) (leaves : List Leaf) → AreLeaves e leaves → All AsksWell leaves
+all_ask_well e leaves are = All-weaker (IsLeaf e) AsksWell (λ leaf is. leaf_asks_well e leaf.query leaf is.query is.of) leaves are
+
+-- the relation is the answer of a leaf that asks the query
+abbrev pub IsAnswered : Encoded → List Fact → Cq → Relation → Type 0
+IsAnswered e facts q relation = (leaf : Leaf) × IsLeafOf e q leaf × AreUnionAnswers facts leaf relation
 
 module _ (o : Declared) (snapshot facts : List Fact) (over : IsOverOntology o snapshot) (saturated : IsSaturated o snapshot facts) where
   union_gives : (union : List Cq) (row : List IndId) → IsUnionAnswer facts union row ↔ SomeGives (Contains union) facts row
@@ -62,15 +62,13 @@ module _ (o : Declared) (snapshot facts : List Fact) (over : IsOverOntology o sn
         λ h. rows.1 ((union_gives leaf.core.items row).1 (exact.1 h)),
       )
 
-  pub leaves_certain : (qs : List Cq) (leaves : List Leaf) (relations : List Relation) → All (IsQueryOver o) qs → AllZip (IsLeafOf (encoded o)) qs leaves → AllZip (AreUnionAnswers facts) leaves relations → AllZip (AreCertain o.inclusions snapshot) qs relations
-  leaves_certain [] [] [] declared are answers = tt
-  leaves_certain [] [] (r ∷ rs) declared are answers = absurd answers
-  leaves_certain [] (leaf ∷ leaves) rs declared are answers = absurd are
-  leaves_certain (q ∷ qs) [] rs declared are answers = absurd are
-  leaves_certain (q ∷ qs) (leaf ∷ leaves) [] declared are answers = absurd answers
-  leaves_certain (q ∷ qs) (leaf ∷ leaves) (r ∷ rs) declared are answers = (
-    leaf_certain q leaf r (All-head (IsQueryOver o) q qs declared) are.0 answers.0,
-    leaves_certain qs leaves rs (All-tail (IsQueryOver o) q qs declared) are.1 answers.1,
+  pub leaves_certain : (qs : List Cq) (relations : List Relation) → All (IsQueryOver o) qs → AllZip (IsAnswered (encoded o) facts) qs relations → AllZip (AreCertain o.inclusions snapshot) qs relations
+  leaves_certain [] [] declared answered = tt
+  leaves_certain [] (r ∷ rs) declared answered = absurd answered
+  leaves_certain (q ∷ qs) [] declared answered = absurd answered
+  leaves_certain (q ∷ qs) (r ∷ rs) declared answered = (
+    leaf_certain q answered.0.0 r (All-head (IsQueryOver o) q qs declared) answered.0.1 answered.0.2,
+    leaves_certain qs rs (All-tail (IsQueryOver o) q qs declared) answered.1,
   )
 
 -- a match sends the head to as many individuals as it has terms
@@ -86,13 +84,11 @@ leaf_over facts q leaf relation asks arity answers = record {
   rising = answers.rising;
 }
 
-pub leaves_over : (e : Encoded) (facts : List Fact) (qs : List Cq) (leaves : List Leaf) (relations : List Relation) → All IsQuery qs → AllZip (IsLeafOf e) qs leaves → AllZip (AreUnionAnswers facts) leaves relations → AllZip IsOverLeaf qs relations
-leaves_over e facts [] [] [] queries are answers = tt
-leaves_over e facts [] [] (r ∷ rs) queries are answers = absurd answers
-leaves_over e facts [] (leaf ∷ leaves) rs queries are answers = absurd are
-leaves_over e facts (q ∷ qs) [] rs queries are answers = absurd are
-leaves_over e facts (q ∷ qs) (leaf ∷ leaves) [] queries are answers = absurd answers
-leaves_over e facts (q ∷ qs) (leaf ∷ leaves) (r ∷ rs) queries are answers = (
-  leaf_over facts q leaf r (leaf_asks_well e q leaf (All-head IsQuery q qs queries) are.0) are.0.arity answers.0,
-  leaves_over e facts qs leaves rs (All-tail IsQuery q qs queries) are.1 answers.1,
+pub leaves_over : (e : Encoded) (facts : List Fact) (qs : List Cq) (relations : List Relation) → All IsQuery qs → AllZip (IsAnswered e facts) qs relations → AllZip IsOverLeaf qs relations
+leaves_over e facts [] [] queries answered = tt
+leaves_over e facts [] (r ∷ rs) queries answered = absurd answered
+leaves_over e facts (q ∷ qs) [] queries answered = absurd answered
+leaves_over e facts (q ∷ qs) (r ∷ rs) queries answered = (
+  leaf_over facts q answered.0.0 r (leaf_asks_well e q answered.0.0 (All-head IsQuery q qs queries) answered.0.1) answered.0.1.arity answered.0.2,
+  leaves_over e facts qs rs (All-tail IsQuery q qs queries) answered.1,
 )

@@ -1,5 +1,6 @@
-pub mod Counting
 pub mod LeafAnswers
+pub mod Placing
+pub mod Counting
 pub mod Advances
 pub mod Storing
 pub mod Saturating

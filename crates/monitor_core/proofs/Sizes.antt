@@ -22,7 +22,8 @@ use Rattle.std.proofs.lemmas.Slice.Zip.{AllZip-long}
 use Rattle.tcq_syntax.specs.Kept.{IsKeptSize}
 use Rattle.monitor_core.specs.Keeping.{KeepsOf, IsStoreOf, IsClausesOf, Monitored, IsMonitored}
 use Rattle.monitor_core.specs.Standing.{IsClosed, Stands, setting_of}
-use Rattle.monitor_core.proofs.OneQuery.{all_zip_at, fit_at}
+use Rattle.monitor_core.proofs.Placing.{all_zip_at}
+use Rattle.monitor_core.proofs.OneQuery.{fit_at}
 
 -- the one that stands with an element of the second list, and with one of the first
 pub with_second : {A B : Type 0} (R : A → B → Type 0) (xs : List A) (ys : List B) (y : B) → AllZip R xs ys → Contains ys y → (x : A) × Contains xs x × R x y

@@ -1,5 +1,5 @@
 -- How many queries the leaves and the clashes of a monitor reach by rewriting.
-use Rattle.std.specs.Prelude.{◌≡◌, ◌≢◌, ℕ, ◌<◌, List, [], ◌∷◌, ◌++◌, map, length}
+use Rattle.std.specs.Prelude.{◌≡◌, ◌≢◌, ℕ, ◌<◌, Some, List, [], ◌∷◌, ◌++◌, map, length, slice_get}
 use Rattle.std.specs.List.{All, AllPairs, AllZip, sum_by}
 use Rattle.dl_syntax.specs.Ontology.{Declared}
 use Rattle.dl_syntax.specs.declared.queries.Cq.{Cq}
@@ -8,7 +8,7 @@ use Rattle.perfect_ref.specs.Plain.{Encoded, encoded, Reachable, Lists}
 use Rattle.consistency.specs.Asking.{query_of}
 use Rattle.progression.specs.Tables.{leaves_of}
 use Rattle.monitor_core.specs.declared.plan.Leaf.{Leaf}
-use Rattle.monitor_core.specs.Planning.{IsLeafOf}
+use Rattle.monitor_core.specs.Planning.{IsAskedAt}
 
 -- the leaves of all queries in order
 abbrev pub all_leaves : List Tcq → List Cq
@@ -36,9 +36,17 @@ pub record ReachAll (e : Encoded) (queries : List Cq) (count : ℕ) : Type 0 whe
   pub each : AllZip (λ q list. Lists (Reachable e q) list) queries lists
   pub total : sum_by length lists ≡ count
 
--- these are the leaves for the queries, which reach so many in all
-pub record Gathers (e : Encoded) (queries : List Cq) (leaves : List Leaf) (reached : ℕ) : Type 0 where
-  pub each : AllZip (IsLeafOf e) queries leaves
+-- the leaf at the place asks the query
+abbrev pub AsksSame : List Leaf → Cq → ℕ → Type 0
+AsksSame leaves q place = (leaf : Leaf) × (slice_get leaves place ≡ Some leaf) × (leaf.query ≡ q)
+
+-- each leaf keeps its place
+abbrev pub KeepsLeaves : List Leaf → List Leaf → Type 0
+KeepsLeaves old new = (place : ℕ) (leaf : Leaf) → slice_get old place ≡ Some leaf → slice_get new place ≡ Some leaf
+
+-- the leaves at these places ask the queries, which reach so many in all
+pub record Gathers (e : Encoded) (queries : List Cq) (leaves : List Leaf) (places : List ℕ) (reached : ℕ) : Type 0 where
+  pub each : AllZip (IsAskedAt e leaves) queries places
   pub all : ReachAll e queries reached
 
 -- there are more than so many rewritings of what is watched

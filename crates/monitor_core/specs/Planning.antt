@@ -8,7 +8,7 @@ use Rattle.dl_syntax.specs.Queries.{IsQuery}
 use Rattle.tcq_syntax.specs.declared.nodes.Node.TheVariants as node
 use Rattle.tcq_syntax.specs.Tcq.{Tcq, IsTcq}
 use Rattle.tcq_syntax.specs.Within.{AreWithin}
-use Rattle.perfect_ref.specs.Plain.{Encoded, encoded, IsPlain, PlainCore, Lists}
+use Rattle.perfect_ref.specs.Plain.{Encoded, encoded, IsPlain, PlainCore, Reachable, Lists, HoldsOf}
 use Rattle.consistency.specs.Prepared.{IsPreparedFor}
 use Rattle.progression.specs.Tables.{leaves_of}
 use Rattle.monitor_core.specs.declared.plan.Leaf.{Leaf}
@@ -24,18 +24,32 @@ pub record IsAskable (e : Encoded) (q : Cq) : Type 0 where
 abbrev pub HasPlainLeaves : ℕ → Tcq → Type 0
 HasPlainLeaves roles query = (place : ℕ) (q : Cq) → slice_get query.nodes place ≡ Some (node.Leaf q) → IsPlain roles q
 
--- the core of the query's rewriting, and the length of its head
+-- the leaf asks the query: the length of its head, the core of its rewriting, and how many queries it reaches
 pub record IsLeafOf (e : Encoded) (q : Cq) (leaf : Leaf) : Type 0 where
+  pub asks : leaf.query ≡ q
   pub arity : leaf.arity ≡ length q.head
   pub core : Lists (PlainCore e q) leaf.core.items
+  pub count : HoldsOf (Reachable e q) leaf.reached
 
--- one for each leaf of the query, in order
-abbrev pub AreLeavesOf : Encoded → Tcq → List Leaf → Type 0
-AreLeavesOf e query leaves = AllZip (IsLeafOf e) (leaves_of query.nodes) leaves
+-- the leaf asks its own query, which is within the limits
+pub record IsLeaf (e : Encoded) (leaf : Leaf) : Type 0 where
+  pub query : IsQuery leaf.query
+  pub of : IsLeafOf e leaf.query leaf
 
--- for each query its leaves
-abbrev pub AreAllLeaves : Encoded → List Tcq → List (Vec Leaf Global) → Type 0
-AreAllLeaves e queries all = AllZip (λ query (leaves : Vec Leaf Global). AreLeavesOf e query leaves.items) queries all
+abbrev pub AreLeaves : Encoded → List Leaf → Type 0
+AreLeaves e leaves = All (IsLeaf e) leaves
+
+-- the leaf at the place asks the query
+abbrev pub IsAskedAt : Encoded → List Leaf → Cq → ℕ → Type 0
+IsAskedAt e leaves q place = (leaf : Leaf) × (slice_get leaves place ≡ Some leaf) × IsLeafOf e q leaf
+
+-- for each leaf of the query, in order, the place of one that asks the same
+abbrev pub ArePlacesOf : Encoded → List Leaf → Tcq → List ℕ → Type 0
+ArePlacesOf e leaves query places = AllZip (IsAskedAt e leaves) (leaves_of query.nodes) places
+
+-- for each query the places of its leaves
+abbrev pub AreAllPlaces : Encoded → List Leaf → List Tcq → List (Vec ℕ Global) → Type 0
+AreAllPlaces e leaves queries all = AllZip (λ query (places : Vec ℕ Global). ArePlacesOf e leaves query places.items) queries all
 
 abbrev pub AreTables : List Tcq → Type 0
 AreTables queries = All (λ query. IsTcq query.vars query.nodes) queries
@@ -46,6 +60,7 @@ pub record IsPlan (plan : Plan) : Type 0 where
   pub tables : AreTables plan.queries.items
   pub within : AreWithin plan.ontology plan.queries.items
   pub counted : plan.slots ≡ length plan.ontology.individuals
-  pub each : AreAllLeaves (encoded plan.ontology) plan.queries.items plan.leaves.items
+  pub leaves : AreLeaves (encoded plan.ontology) plan.leaves.items
+  pub places : AreAllPlaces (encoded plan.ontology) plan.leaves.items plan.queries.items plan.places.items
   pub clashes_for : IsPreparedFor plan.clashes plan.ontology
   pub saturates : plan.saturator ≡ plan.ontology.inclusions

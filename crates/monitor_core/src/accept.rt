@@ -1,5 +1,7 @@
 // The next snapshot.
-ghost use Rattle.std.specs.Prelude.{◌≡◌, ◌<◌, ℕ, Some, length, slice_get, Err, IfOk, OnErr};
+ghost use Rattle.std.specs.Prelude.{◌≡◌, ◌<◌, ℕ, List, Some, length, slice_get, Err, IfOk, OnErr};
+ghost use Rattle.std.specs.List.{AllZip};
+ghost use Rattle.dl_syntax.specs.declared.facts.Fact.{Fact};
 ghost use Rattle.tcq_syntax.specs.Histories.{History};
 ghost use Rattle.tcq_syntax.specs.Tcq.{Tcq};
 ghost use Rattle.perfect_ref.specs.Laws.{IsSaturated};
@@ -7,12 +9,13 @@ ghost use Rattle.progression.specs.Kept.{Fits};
 ghost use Rattle.consistency.specs.Least.{IsLeastClash, IsConsistentUnder};
 ghost use Rattle.monitor_core.specs.Answering.{AreOver, AreRowsOf};
 ghost use Rattle.monitor_core.specs.Planning.{IsPlan};
+ghost use Rattle.monitor_core.specs.Leaves.{AreUnionAnswers, AreLeafRelations};
 ghost use Rattle.monitor_core.specs.Keeping.{AllFit};
 ghost use Rattle.monitor_core.specs.Advancing.{Advances, AllAdvance};
 ghost use Rattle.monitor_core.specs.Standing.{Stands, Accepts, IsNext, setting_of};
 
 use crate::accept_fault::AcceptFault;
-use crate::leaves::leaf_answers;
+use crate::leaves::{leaf_answers, relations_at};
 use crate::monitor::Monitor;
 use crate::plan::Plan;
 use crate::state::{State, state_of};
@@ -41,24 +44,25 @@ impl Plan {
         build::index(alloc, &facts)
     }
 
-    /// What is kept of the query at the place after one more snapshot, from whose facts these follow, and its answers then.
+    /// What is kept of the query at the place after one more snapshot, at which these are the answers of the leaves, and its answers then.
     fn advance_one(
         &self,
         alloc: Global,
         place: usize,
         kept: &Kept,
-        facts: &Index,
+        relations: &[Tuples],
         store: &mut Store,
     ) -> Result<(Kept, Tuples), Memory>
         requires plan { IsPlan self.now }
+        requires relations { AreLeafRelations self.now.leaves.items relations.now }
         requires within { place < length self.now.queries.items }
         requires fits { (query : Tcq) → slice_get self.now.queries.items place ≡ Some query → Fits query (length self.now.ontology.individuals) kept.now }
-        ensures { IfOk result (λ r. (query : Tcq) → slice_get self.now.queries.items place ≡ Some query → Advances self.now.ontology query facts.now kept.now r.0 r.1) }
+        ensures { IfOk result (λ r. (facts : List Fact) (query : Tcq) → AllZip (AreUnionAnswers facts) self.now.leaves.items relations.now → slice_get self.now.queries.items place ≡ Some query → Advances self.now.ontology query facts kept.now r.0 r.1) }
     {
         let query = &self.queries[place];
-        let leaves = self.leaves.as_slice();
-        let answers = leaf_answers(alloc, facts, leaves[place].as_slice())?;
-        advance(alloc, query, self.slots, kept, answers.as_slice(), store)
+        let places = self.places.as_slice();
+        let leaves = relations_at(alloc, relations, places[place].as_slice())?;
+        advance(alloc, query, self.slots, kept, leaves.as_slice(), store)
     }
 
     /// What is kept of each query after one more snapshot, from whose facts these follow, and the answers then.
@@ -67,11 +71,13 @@ impl Plan {
         requires fits { AllFit self.now.ontology self.now.queries.items kept.now }
         ensures { IfOk result (λ a. AllAdvance self.now.ontology self.now.queries.items facts.now kept.now a.kept.items a.answers.items) }
     {
+        let relations = leaf_answers(alloc, facts, self.leaves.as_slice())?;
         let mut store = Store::new(alloc);
         let mut new = Vec::with_capacity(alloc, kept.len())?;
         let mut answers = Vec::with_capacity(alloc, kept.len())?;
         for place in 0..kept.len() {
-            let (k, rows) = self.advance_one(alloc, place, &kept[place], facts, &mut store)?;
+            let known = relations.as_slice();
+            let (k, rows) = self.advance_one(alloc, place, &kept[place], known, &mut store)?;
             new.push(k)?;
             answers.push(rows)?;
         }

@@ -1,8 +1,7 @@
-// The answers of a query's leaves at one snapshot.
-ghost use Rattle.std.specs.Prelude.{◌≡◌, ◌≤◌, IfOk, List, length};
+// The answers of leaves at one snapshot.
+ghost use Rattle.std.specs.Prelude.{◌<◌, IfOk, length};
 ghost use Rattle.std.specs.List.{All, AllZip};
-ghost use Rattle.dl_syntax.specs.Queries.{IsQuery};
-ghost use Rattle.monitor_core.specs.Leaves.{AsksWell, AreUnionAnswers};
+ghost use Rattle.monitor_core.specs.Leaves.{AsksWell, AreUnionAnswers, StandsAt};
 
 use crate::plan::Leaf;
 use dl_syntax::{Memory, Tuples};
@@ -24,4 +23,20 @@ pub(crate) fn leaf_answers(
         rows.push(answers(alloc, index, leaf.arity, leaf.core.as_slice())?)?;
     }
     Ok(rows)
+}
+
+/// The relations at the places.
+pub(crate) fn relations_at(
+    alloc: Global,
+    relations: &[Tuples],
+    places: &[usize],
+) -> Result<Vec<Tuples>, Memory>
+    requires { All (λ place. place < length relations.now) places.now }
+    ensures { IfOk result (λ found. AllZip (StandsAt relations.now) places.now found.items) }
+{
+    let mut found = Vec::with_capacity(alloc, places.len())?;
+    for place in places {
+        found.push(relations[*place].clone()?)?;
+    }
+    Ok(found)
 }

@@ -1,5 +1,5 @@
 // A monitor before any snapshot.
-ghost use Rattle.std.specs.Prelude.{◌≡◌, ◌≤◌, ◌++◌, [], ◌∷◌, IfOk, OnOk, Err, List, ℕ};
+ghost use Rattle.std.specs.Prelude.{◌≡◌, ◌≤◌, ◌↔◌, ◌++◌, [], ◌∷◌, IsTrue, IfOk, OnOk, MatchOption, Err, List, ℕ};
 ghost use Rattle.dl_syntax.specs.declared.queries.Cq.{Cq};
 ghost use Rattle.std.specs.List.{All};
 ghost use Rattle.tcq_syntax.specs.declared.nodes.Node.TheVariants as node_kinds;
@@ -7,8 +7,8 @@ ghost use Rattle.tcq_syntax.specs.Tcq.{IsTcq};
 ghost use Rattle.tcq_syntax.specs.Within.{AreWithin};
 ghost use Rattle.perfect_ref.specs.Plain.{encoded, Reachable, HoldsOf, HoldsOfMore};
 ghost use Rattle.progression.specs.Tables.{leaves_of};
-ghost use Rattle.monitor_core.specs.Planning.{IsAskable, HasPlainLeaves, IsLeafOf, AreAllLeaves, AreTables, IsPlan};
-ghost use Rattle.monitor_core.specs.Opening.{all_leaves, ReachAll, ReachMore, Gathers, HasMoreRewritings};
+ghost use Rattle.monitor_core.specs.Planning.{IsAskable, HasPlainLeaves, IsLeafOf, AreLeaves, IsAskedAt, AreAllPlaces, AreTables, IsPlan};
+ghost use Rattle.monitor_core.specs.Opening.{all_leaves, ReachAll, ReachMore, AsksSame, KeepsLeaves, Gathers, HasMoreRewritings};
 ghost use Rattle.monitor_core.specs.Keeping.{AllFresh, IsState};
 ghost use Rattle.monitor_core.specs.Standing.{Stands, setting_of, no_history};
 
@@ -23,110 +23,179 @@ use saturate::Saturator;
 use std::alloc::Global;
 use tcq_syntax::{Node, Query};
 
-/// Leaves, and how many queries they reach in all.
+/// The places of a query's leaves, and how many queries they reach in all.
 #[derive(Drop)]
-struct Leaves {
-    each: Vec<Leaf>,
+struct Places {
+    each: Vec<usize>,
     reached: u32,
 }
 
-/// Those of several queries.
+/// The leaves of several queries: what they ask, once each, and the places of each query's.
 #[derive(Drop)]
 struct AllLeaves {
-    each: Vec<Vec<Leaf>>,
+    leaves: Vec<Leaf>,
+    places: Vec<Vec<usize>>,
     reached: u32,
 }
 
-/// The leaf that asks the query, and how many queries it reaches.
-fn leaf_of(rewriter: &Rewriter, query: &Cq, room: u32) -> Result<(Leaf, u32), RewriteFault>
+/// The leaf that asks the query.
+fn leaf_of(rewriter: &Rewriter, query: &Cq, room: u32) -> Result<Leaf, RewriteFault>
     requires { IsAskable rewriter.now query.now }
-    ensures leaf { IfOk result (λ r. IsLeafOf rewriter.now query.now r.0) }
+    ensures leaf { IfOk result (λ leaf. IsLeafOf rewriter.now query.now leaf) }
+    ensures few { IfOk result (λ leaf. leaf.reached ≤ room) }
+    ensures many { result ≡ Err RewriteFault.TooManyRewritings → HoldsOfMore (Reachable rewriter.now query.now) room }
+{
+    let core = match rewriter.counted_core(query, room) {
+        Ok(core) => core,
+        Err(fault) => return Err(fault),
+    };
+    let asked = match query.clone() {
+        Ok(asked) => asked,
+        Err(_) => return Err(RewriteFault::Memory),
+    };
+    Ok(Leaf {
+        query: asked,
+        arity: query.head.as_slice().len() as u8,
+        reached: core.reached,
+        core: core.members,
+    })
+}
+
+/// Whether the leaf asks the query.
+fn asks(leaf: &Leaf, query: &Cq) -> bool
+    ensures { IsTrue result ↔ (leaf.now.query ≡ query.now) }
+{
+    leaf.query == *query
+}
+
+/// The place of a leaf that asks the query.
+fn place_of(leaves: &[Leaf], query: &Cq) -> Option<usize>
+    ensures { MatchOption result (Unit {0}) (λ place. AsksSame leaves.now query.now place) }
+{
+    for (place, leaf) in leaves.iter().enumerate() {
+        if asks(leaf, query) {
+            return Some(place);
+        }
+    }
+    None
+}
+
+/// The place of the leaf that asks the query, and how many queries it reaches. It is put with the others where none asks the same.
+fn leaf_at(
+    rewriter: &Rewriter,
+    query: &Cq,
+    room: u32,
+    leaves: &mut Vec<Leaf>,
+) -> Result<(usize, u32), RewriteFault>
+    requires askable { IsAskable rewriter.now query.now }
+    requires leaves { AreLeaves rewriter.now leaves.old.items }
+    ensures leaves { OnOk result (AreLeaves rewriter.now leaves.new.items) }
+    ensures kept { OnOk result (KeepsLeaves leaves.old.items leaves.new.items) }
+    ensures at { IfOk result (λ r. IsAskedAt rewriter.now leaves.new.items query.now r.0) }
     ensures count { IfOk result (λ r. HoldsOf (Reachable rewriter.now query.now) r.1) }
     ensures few { IfOk result (λ r. r.1 ≤ room) }
     ensures many { result ≡ Err RewriteFault.TooManyRewritings → HoldsOfMore (Reachable rewriter.now query.now) room }
 {
-    match rewriter.counted_core(query, room) {
-        Ok(core) => {
-            let arity = query.head.as_slice().len() as u8;
-            let leaf = Leaf {
-                arity,
-                core: core.members,
-            };
-            Ok((leaf, core.reached))
+    if let Some(place) = place_of(leaves.as_slice(), query) {
+        let reached = leaves[place].reached;
+        if reached > room {
+            return Err(RewriteFault::TooManyRewritings);
         }
-        Err(fault) => Err(fault),
+        return Ok((place, reached));
     }
+    let leaf = match leaf_of(rewriter, query, room) {
+        Ok(leaf) => leaf,
+        Err(fault) => return Err(fault),
+    };
+    let found = (leaves.len(), leaf.reached);
+    match leaves.push(leaf) {
+        Ok(()) => {}
+        Err(_) => return Err(RewriteFault::Memory),
+    }
+    Ok(found)
 }
 
-/// The leaves with one more.
+/// The places with that of one more leaf.
 fn add_leaf(
     rewriter: &Rewriter,
     query: &Cq,
     room: u32,
-    leaves: &mut Leaves,
+    leaves: &mut Vec<Leaf>,
+    places: &mut Places,
 ) -> Result<(), RewriteFault>
     requires askable { IsAskable rewriter.now query.now }
-    requires few { leaves.old.reached ≤ room }
-    ensures few { OnOk result (leaves.new.reached ≤ room) }
-    ensures ok { OnOk result ((front : List Cq) → Gathers rewriter.now front leaves.old.each.items leaves.old.reached → Gathers rewriter.now (front ++ query.now ∷ []) leaves.new.each.items leaves.new.reached) }
-    ensures many { result ≡ Err RewriteFault.TooManyRewritings → (front : List Cq) → Gathers rewriter.now front leaves.old.each.items leaves.old.reached → ReachMore rewriter.now (front ++ query.now ∷ []) room }
+    requires leaves { AreLeaves rewriter.now leaves.old.items }
+    requires few { places.old.reached ≤ room }
+    ensures leaves { OnOk result (AreLeaves rewriter.now leaves.new.items) }
+    ensures kept { OnOk result (KeepsLeaves leaves.old.items leaves.new.items) }
+    ensures few { OnOk result (places.new.reached ≤ room) }
+    ensures ok { OnOk result ((front : List Cq) → Gathers rewriter.now front leaves.old.items places.old.each.items places.old.reached → Gathers rewriter.now (front ++ query.now ∷ []) leaves.new.items places.new.each.items places.new.reached) }
+    ensures many { result ≡ Err RewriteFault.TooManyRewritings → (front : List Cq) → Gathers rewriter.now front leaves.old.items places.old.each.items places.old.reached → ReachMore rewriter.now (front ++ query.now ∷ []) room }
 {
-    let (leaf, count) = match leaf_of(rewriter, query, room - leaves.reached) {
+    let (place, count) = match leaf_at(rewriter, query, room - places.reached, leaves) {
         Ok(found) => found,
         Err(fault) => return Err(fault),
     };
-    match leaves.each.push(leaf) {
+    match places.each.push(place) {
         Ok(()) => {}
         Err(_) => return Err(RewriteFault::Memory),
     }
-    leaves.reached += count;
+    places.reached += count;
     Ok(())
 }
 
-/// The leaves with that of the node, if it is one.
+/// The places with that of the node, if it is a leaf.
 fn add_node(
     rewriter: &Rewriter,
     node: &Node,
     room: u32,
-    leaves: &mut Leaves,
+    leaves: &mut Vec<Leaf>,
+    places: &mut Places,
 ) -> Result<(), RewriteFault>
     requires askable { (q : Cq) → node.now ≡ node_kinds.Leaf q → IsAskable rewriter.now q }
-    requires few { leaves.old.reached ≤ room }
-    ensures few { OnOk result (leaves.new.reached ≤ room) }
-    ensures ok { OnOk result ((front : List Cq) → Gathers rewriter.now front leaves.old.each.items leaves.old.reached → Gathers rewriter.now (front ++ leaves_of (node.now ∷ [])) leaves.new.each.items leaves.new.reached) }
-    ensures many { result ≡ Err RewriteFault.TooManyRewritings → (front : List Cq) → Gathers rewriter.now front leaves.old.each.items leaves.old.reached → ReachMore rewriter.now (front ++ leaves_of (node.now ∷ [])) room }
+    requires leaves { AreLeaves rewriter.now leaves.old.items }
+    requires few { places.old.reached ≤ room }
+    ensures leaves { OnOk result (AreLeaves rewriter.now leaves.new.items) }
+    ensures kept { OnOk result (KeepsLeaves leaves.old.items leaves.new.items) }
+    ensures few { OnOk result (places.new.reached ≤ room) }
+    ensures ok { OnOk result ((front : List Cq) → Gathers rewriter.now front leaves.old.items places.old.each.items places.old.reached → Gathers rewriter.now (front ++ leaves_of (node.now ∷ [])) leaves.new.items places.new.each.items places.new.reached) }
+    ensures many { result ≡ Err RewriteFault.TooManyRewritings → (front : List Cq) → Gathers rewriter.now front leaves.old.items places.old.each.items places.old.reached → ReachMore rewriter.now (front ++ leaves_of (node.now ∷ [])) room }
 {
     match node {
-        Node::Leaf(query) => add_leaf(rewriter, query, room, leaves),
+        Node::Leaf(query) => add_leaf(rewriter, query, room, leaves, places),
         _ => Ok(()),
     }
 }
 
-/// The leaves of a query.
-fn leaves_of_query(
+/// The places of a query's leaves, which are put with the others where none asks the same.
+fn places_of_query(
     alloc: Global,
     rewriter: &Rewriter,
     query: &Query,
     room: u32,
-) -> Result<Leaves, RewriteFault>
-    requires { HasPlainLeaves rewriter.now.roles query.now }
+    leaves: &mut Vec<Leaf>,
+) -> Result<Places, RewriteFault>
+    requires plain { HasPlainLeaves rewriter.now.roles query.now }
+    requires leaves { AreLeaves rewriter.now leaves.old.items }
     ensures table { IfOk result (λ _. IsTcq query.now.vars query.now.nodes) }
-    ensures few { IfOk result (λ leaves. leaves.reached ≤ room) }
-    ensures ok { IfOk result (λ leaves. Gathers rewriter.now (leaves_of query.now.nodes) leaves.each.items leaves.reached) }
+    ensures leaves { OnOk result (AreLeaves rewriter.now leaves.new.items) }
+    ensures kept { OnOk result (KeepsLeaves leaves.old.items leaves.new.items) }
+    ensures few { IfOk result (λ places. places.reached ≤ room) }
+    ensures ok { IfOk result (λ places. Gathers rewriter.now (leaves_of query.now.nodes) leaves.new.items places.each.items places.reached) }
     ensures many { result ≡ Err RewriteFault.TooManyRewritings → ReachMore rewriter.now (leaves_of query.now.nodes) room }
 {
-    let mut leaves = Leaves {
+    let mut places = Places {
         each: Vec::new(alloc),
         reached: 0,
     };
     let nodes = query.nodes();
     for node in nodes {
-        match add_node(rewriter, node, room, &mut leaves) {
+        match add_node(rewriter, node, room, leaves, &mut places) {
             Ok(()) => {}
             Err(fault) => return Err(fault),
         }
     }
-    Ok(leaves)
+    Ok(places)
 }
 
 /// The leaves of the queries.
@@ -138,22 +207,25 @@ fn all_leaves_of(
 ) -> Result<AllLeaves, RewriteFault>
     requires { All (HasPlainLeaves rewriter.now.roles) queries.now }
     ensures tables { IfOk result (λ _. AreTables queries.now) }
-    ensures few { IfOk result (λ leaves. leaves.reached ≤ room) }
-    ensures each { IfOk result (λ leaves. AreAllLeaves rewriter.now queries.now leaves.each.items) }
-    ensures all { IfOk result (λ leaves. ReachAll rewriter.now (all_leaves queries.now) leaves.reached) }
+    ensures few { IfOk result (λ all. all.reached ≤ room) }
+    ensures leaves { IfOk result (λ all. AreLeaves rewriter.now all.leaves.items) }
+    ensures places { IfOk result (λ all. AreAllPlaces rewriter.now all.leaves.items queries.now all.places.items) }
+    ensures all { IfOk result (λ all. ReachAll rewriter.now (all_leaves queries.now) all.reached) }
     ensures many { result ≡ Err RewriteFault.TooManyRewritings → ReachMore rewriter.now (all_leaves queries.now) room }
 {
     let mut all = AllLeaves {
-        each: Vec::new(alloc),
+        leaves: Vec::new(alloc),
+        places: Vec::new(alloc),
         reached: 0,
     };
     for query in queries {
-        let leaves = match leaves_of_query(alloc, rewriter, query, room - all.reached) {
-            Ok(leaves) => leaves,
+        let left = room - all.reached;
+        let places = match places_of_query(alloc, rewriter, query, left, &mut all.leaves) {
+            Ok(places) => places,
             Err(fault) => return Err(fault),
         };
-        all.reached += leaves.reached;
-        match all.each.push(leaves.each) {
+        all.reached += places.reached;
+        match all.places.push(places.each) {
             Ok(()) => {}
             Err(_) => return Err(RewriteFault::Memory),
         }
@@ -190,11 +262,11 @@ fn plan_of(
         Ok(rewriter) => rewriter,
         Err(_) => return Err(RewriteFault::Memory),
     };
-    let leaves = match all_leaves_of(alloc, &rewriter, queries.as_slice(), room) {
-        Ok(leaves) => leaves,
+    let all = match all_leaves_of(alloc, &rewriter, queries.as_slice(), room) {
+        Ok(all) => all,
         Err(fault) => return Err(fault),
     };
-    let clashes = match prepare(alloc, &ontology, room - leaves.reached) {
+    let clashes = match prepare(alloc, &ontology, room - all.reached) {
         Ok(clashes) => clashes,
         Err(fault) => return Err(fault),
     };
@@ -207,7 +279,8 @@ fn plan_of(
         ontology,
         queries,
         slots,
-        leaves: leaves.each,
+        leaves: all.leaves,
+        places: all.places,
         clashes,
         saturator,
     })

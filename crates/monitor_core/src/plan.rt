@@ -3,11 +3,15 @@ use dl_syntax::{Cq, Ontology};
 use saturate::Saturator;
 use tcq_syntax::Query;
 
-/// A leaf of a query, as it is asked of the facts that follow from a snapshot.
+/// What leaves ask, as it is asked of the facts that follow from a snapshot.
 #[derive(Drop)]
 pub struct Leaf {
+    /// The query that they ask.
+    pub query: Cq,
     /// The length of its head.
     pub arity: u8,
+    /// How many queries it reaches by rewriting.
+    pub reached: u32,
     /// The core of its rewriting.
     pub core: Vec<Cq>,
 }
@@ -19,8 +23,10 @@ pub struct Plan {
     pub queries: Vec<Query>,
     /// How many individuals there are.
     pub slots: u32,
-    /// For each query its leaves, in the order of its table.
-    pub leaves: Vec<Vec<Leaf>>,
+    /// The leaves of all queries, where those that ask the same are kept once.
+    pub leaves: Vec<Leaf>,
+    /// For each query the places of its leaves among them, in the order of its table.
+    pub places: Vec<Vec<usize>>,
     pub clashes: Clashes,
     pub saturator: Saturator,
 }

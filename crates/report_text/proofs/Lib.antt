@@ -4,3 +4,4 @@ mod RowTexts
 mod Verbatim
 mod ObjectTexts
 mod EventTexts
+mod Examples

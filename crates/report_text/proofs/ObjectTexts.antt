@@ -1,5 +1,5 @@
 -- Objects by the pieces that they are appended in.
-use Rattle.std.proofs.Common.{◌≡◌, ◌∙◌, ℕ, ◌+◌, ◌<◌, zero, suc, List, [], ◌∷◌, ◌++◌, Option, Some, None, true, false, ap, refl, sym, append_assoc, length, drop, map, get_or, arith}
+use Rattle.std.proofs.Common.{◌≡◌, ◌∙◌, ℕ, ◌+◌, ◌<◌, List, ◌∷◌, ◌++◌, Option, Some, None, true, false, ap, sym, append_assoc, length, drop, map, get_or, arith}
 use Rattle.std.specs.Prelude.{decimal, codes, nat_lt, slice_get}
 use Rattle.std.proofs.lemmas.Bool.Decides.{nat_tests}
 use Rattle.serde_json.specs.Data.{Data, member, no_members, object, string}
@@ -94,6 +94,6 @@ module _ (names : List Text) (i : ℕ) (out now whole : Text) where
       let next : drop i answers ≡ relation ∷ drop (i + 1) answers = drop_more answers i relation inside ∙ ap (λ r. r ∷ drop (i + 1) answers) (sym is_relation) in
       let named : query_name queries i ≡ name = ap name_of_query (slice_get-get_or queries i query among ∙ ap Some (sym is_query)) ∙ sym is_name in
       let same : query_data names (query_name queries i) (size_at kept i) relation.rows ≡ query_data names name size relation.rows =
-          ap (λ n. query_data names n (size_at kept i) relation.rows) named ∙ ap (λ k. query_data names name k relation.rows) (sym is_size) in
+      ap (λ n. query_data names n (size_at kept i) relation.rows) named ∙ ap (λ k. query_data names name k relation.rows) (sym is_size) in
       element_more (query_data names name size relation.rows) (queries_data names queries kept i (drop i answers)) (queries_data names queries kept (i + 1) (drop (i + 1) answers)) i out now whole
       (ap (queries_data names queries kept i) next ∙ ap (λ d. d ∷ queries_data names queries kept (i + 1) (drop (i + 1) answers)) same) so_far more

@@ -1,5 +1,5 @@
 -- Fields that need no quotes, and rows of them.
-use Rattle.std.proofs.Common.{◌≡◌, ◌∙◌, ℕ, ◌+◌, ◌<◌, ◌^◌, ◌%◌, ◌≤◌, List, [], ◌∷◌, ◌++◌, Bool, true, false, ◌||◌, ap, refl, arith, sym, append_assoc, length, get_or}
+use Rattle.std.proofs.Common.{◌≡◌, ◌∙◌, ℕ, ◌+◌, ◌<◌, ◌^◌, ◌%◌, List, [], ◌∷◌, ◌++◌, false, ◌||◌, ap, refl, arith, append_assoc, length}
 use Rattle.std.specs.Prelude.{decimal, codes, IsTrue, flat_map}
 use Rattle.std.specs.List.{All}
 use Rattle.std.proofs.lemmas.Bool.Decides.{nat_tests}
@@ -9,7 +9,7 @@ use Rattle.std.proofs.lemmas.List.Elements.{All-cons, All-weaker, All-head, All-
 use Rattle.csv.specs.Writing.{default_writer, field_text, fields_text, is_blank, needs_byte, needs_quotes}
 use Rattle.dl_syntax.specs.declared.names.IndId.{IndId}
 use Rattle.dl_syntax.specs.Names.{IsName, is_letter, is_name_byte}
-use Rattle.report_text.specs.Names.{Text, name_text, separated}
+use Rattle.report_text.specs.Names.{Text, name_text}
 use Rattle.report_text.specs.Rows.{row, individuals_text}
 
 -- the writer sets no quotes round the field

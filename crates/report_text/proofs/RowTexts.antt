@@ -1,13 +1,13 @@
 -- Rows by the pieces that they are appended in.
-use Rattle.std.proofs.Common.{◌≡◌, ◌∙◌, ℕ, ◌<◌, ◌^◌, List, [], ◌∷◌, ◌++◌, ap, ap₂, refl, sym, append_assoc, length, arith}
-use Rattle.std.specs.Prelude.{decimal, codes, flat_map}
+use Rattle.std.proofs.Common.{◌≡◌, ◌∙◌, ℕ, ◌<◌, ◌^◌, List, [], ◌++◌, ap, ap₂, refl, append_assoc, length, arith}
+use Rattle.std.specs.Prelude.{decimal, codes}
 use Rattle.std.specs.List.{All}
 use Rattle.dl_syntax.specs.declared.names.IndId.{IndId}
 use Rattle.dl_syntax.specs.Names.{IsName}
 use Rattle.report_text.specs.declared.item.Cause.{Cause}
 use Rattle.report_text.specs.declared.item.Cause.TheVariants.{TooLong, Malformed, Unknown, WrongKind, Undeclared, TooManyFacts, Contradiction}
 use Rattle.report_text.specs.Names.{Text, IsSpelledCause}
-use Rattle.report_text.specs.Rows.{HasSmallClash, row, cause_word, cause_number, cause_name, individuals_text, accepted_row, answer_row, answer_front, answer_detail, kept_row, refused_row, end_row}
+use Rattle.report_text.specs.Rows.{HasSmallClash, cause_word, cause_number, cause_name, individuals_text, accepted_row, answer_row, answer_front, answer_detail, kept_row, refused_row, end_row}
 use Rattle.report_text.proofs.Plain.{IsPlain, decimal_is_plain, name_is_plain, nothing_is_plain, individuals_are_plain, row_is}
 use Rattle.report_text.proofs.Pieces.{grown_4}
 

@@ -1,5 +1,5 @@
 -- The lines that tell the rewriting of a query.
-use Rattle.std.specs.Prelude.{ℕ, List, [], ◌∷◌, ◌++◌, codes, decimal, flat_map, slice_index_or}
+use Rattle.std.specs.Prelude.{ℕ, List, ◌++◌, codes, decimal}
 use Rattle.dl_syntax.specs.declared.queries.Term.{Term}
 use Rattle.dl_syntax.specs.declared.queries.Term.TheVariants.{Var, Ind}
 use Rattle.dl_syntax.specs.declared.queries.Atom.{Atom}

@@ -7,9 +7,7 @@ ghost use Rattle.report_text.specs.Objects.{object_text};
 ghost use Rattle.report_text.specs.Events.{AreAnswered, EventHasNames, event_text, items_of, query_items, report_heading_text};
 
 use crate::item::Cause;
-use crate::line::{
-    LineForm, append_kept, append_refused, append_two, heading, try_append_answers,
-};
+use crate::line::{LineForm, append_kept, append_refused, append_two, heading, try_append_answers};
 use crate::object::{append_accepted_object, append_end_object, append_refused_object, size_of};
 use crate::row::{
     append_accepted_row, append_answer_rows, append_end_row, append_kept_row, append_refused_row,
@@ -180,12 +178,7 @@ fn append_items(
 }
 
 /// Appends the line of an accepted snapshot. What stood before stays, also on an error.
-fn append_accepted(
-    out: &mut Vec<u8>,
-    form: LineForm,
-    line: u64,
-    number: u64,
-) -> Result<(), Memory>
+fn append_accepted(out: &mut Vec<u8>, form: LineForm, line: u64, number: u64) -> Result<(), Memory>
     ensures ok { OnOk result (out.new.items ≡ out.old.items ++ accepted_in form line number) }
     ensures kept { take (vec_len out.old) out.new.items ≡ out.old.items }
 {
@@ -196,12 +189,7 @@ fn append_accepted(
 }
 
 /// Appends the line of a refusal. What stood before stays, also on an error.
-fn append_refusal(
-    out: &mut Vec<u8>,
-    form: LineForm,
-    line: u64,
-    cause: &Cause,
-) -> Result<(), Memory>
+fn append_refusal(out: &mut Vec<u8>, form: LineForm, line: u64, cause: &Cause) -> Result<(), Memory>
     requires { IsSpelledCause cause.now }
     ensures ok { OnOk result (out.new.items ≡ out.old.items ++ refused_in form line cause.now) }
     ensures kept { take (vec_len out.old) out.new.items ≡ out.old.items }
@@ -213,12 +201,7 @@ fn append_refusal(
 }
 
 /// Appends the last line. What stood before stays, also on an error.
-fn append_last(
-    out: &mut Vec<u8>,
-    form: LineForm,
-    accepted: u64,
-    refused: u64,
-) -> Result<(), Memory>
+fn append_last(out: &mut Vec<u8>, form: LineForm, accepted: u64, refused: u64) -> Result<(), Memory>
     ensures ok { OnOk result (out.new.items ≡ out.old.items ++ end_in form accepted refused) }
     ensures kept { take (vec_len out.old) out.new.items ≡ out.old.items }
 {

@@ -58,7 +58,11 @@ fn append_named(out: &mut Vec<u8>, word: &[u8], name: &[u8]) -> Result<(), Memor
 }
 
 /// Appends the names of a row, each after a space.
-pub(crate) fn append_row(out: &mut Vec<u8>, ontology: &Ontology, row: &[IndId]) -> Result<(), Memory>
+pub(crate) fn append_row(
+    out: &mut Vec<u8>,
+    ontology: &Ontology,
+    row: &[IndId],
+) -> Result<(), Memory>
     requires { IsNamed ontology.now row.now }
     ensures ok { OnOk result (out.new.items ≡ out.old.items ++ row_text ontology.now.individuals row.now) }
     ensures kept { take (vec_len out.old) out.new.items ≡ out.old.items }

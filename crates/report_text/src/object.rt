@@ -142,11 +142,7 @@ fn append_size(out: &mut Vec<u8>, size: Option<u64>) -> Result<(), Memory>
 }
 
 /// Appends the members of a query's object before its tuples. What stood before stays, also on an error.
-fn append_query_start(
-    out: &mut Vec<u8>,
-    query: &[u8],
-    size: Option<u64>,
-) -> Result<(), Memory>
+fn append_query_start(out: &mut Vec<u8>, query: &[u8], size: Option<u64>) -> Result<(), Memory>
     requires { IsName query.now }
     ensures ok { OnOk result (out.new.items ≡ out.old.items ++ ((codes "{" ++ size_text size) ++ (codes "\"query\":" ++ value_text (string query.now)))) }
     ensures kept { take (vec_len out.old) out.new.items ≡ out.old.items }

@@ -68,11 +68,7 @@ pub fn append_accepted_row(out: &mut Vec<u8>, line: u64, number: u64) -> Result<
 }
 
 /// Appends the names of individuals, separated by one space. What stood before stays, also on an error.
-fn append_individuals(
-    out: &mut Vec<u8>,
-    ontology: &Ontology,
-    row: &[IndId],
-) -> Result<(), Memory>
+fn append_individuals(out: &mut Vec<u8>, ontology: &Ontology, row: &[IndId]) -> Result<(), Memory>
     requires { IsNamed ontology.now row.now }
     ensures ok { OnOk result (out.new.items ≡ out.old.items ++ individuals_text ontology.now.individuals row.now) }
     ensures kept { take (vec_len out.old) out.new.items ≡ out.old.items }
@@ -170,12 +166,7 @@ pub fn append_answer_rows(
 }
 
 /// Appends the row of how much a query keeps. What stood before stays, also on an error.
-pub fn append_kept_row(
-    out: &mut Vec<u8>,
-    line: u64,
-    size: u64,
-    query: &[u8],
-) -> Result<(), Memory>
+pub fn append_kept_row(out: &mut Vec<u8>, line: u64, size: u64, query: &[u8]) -> Result<(), Memory>
     requires { IsName query.now }
     ensures ok { OnOk result (out.new.items ≡ out.old.items ++ kept_row line size query.now) }
     ensures kept { take (vec_len out.old) out.new.items ≡ out.old.items }

@@ -1,9 +1,10 @@
 //! The exact bytes of each kind of line, and of a conjunctive query.
-use crate::{
-    Cause, Event, Item, LineForm, ReportForm, append_event, append_line, heading, render_cq, render_line,
-    render_object, report_heading,
-};
-use dl_syntax::{Atom, Cq, IndId, Items, Kind, Memory, Name, Ontology, RoleId, Row, Term, Tuples};
+ghost use Rattle.std.specs.Prelude.{◌≡◌, [], IfOk, codes};
+ghost use Rattle.dl_syntax.specs.Ontology.{nothing_declared};
+ghost use Rattle.report_text.specs.Events.{HasAnswers, IsSpelledEvent};
+
+use crate::{Cause, Event, LineForm, ReportForm, append_event, heading, render_cq, report_heading};
+use dl_syntax::{Atom, Cq, Items, Kind, Memory, Name, Ontology, RoleId, Term};
 use std::alloc::Global;
 use tcq_syntax::{Node, Query};
 
@@ -26,4 +27,83 @@ fn tells_a_query(rt: HostRuntime) {
     let cq = partners(alloc).expect(&rt, "memory");
     let line = render_cq(alloc, &cq, &ontology).expect(&rt, "memory");
     assert_eq!(rt; line.as_slice(), b"cq (?v0) = [runs(?v0,?v1)]\n".as_slice());
+}
+
+#[test]
+fn begins_with_the_columns(rt: HostRuntime) {
+    assert_eq!(rt;
+        heading(LineForm::Csv),
+        b"line,event,number,name,detail\n".as_slice()
+    );
+    assert_eq!(rt; report_heading(ReportForm::Objects), b"".as_slice());
+}
+
+/// The event in the three forms, where there are no queries.
+fn in_each_form(alloc: Global, event: &Event) -> Result<Vec<u8>, Memory>
+    requires answers { HasAnswers nothing_declared [] event.now }
+    requires spelled { IsSpelledEvent event.now }
+{
+    let ontology = Ontology::new(alloc);
+    let mut out = Vec::new(alloc);
+    append_event(
+        &mut out,
+        event,
+        ReportForm::Lines(LineForm::Text),
+        &ontology,
+        &[],
+    )?;
+    append_event(
+        &mut out,
+        event,
+        ReportForm::Lines(LineForm::Csv),
+        &ontology,
+        &[],
+    )?;
+    append_event(&mut out, event, ReportForm::Objects, &ontology, &[])?;
+    Ok(out)
+}
+
+#[test]
+fn tells_the_end(rt: HostRuntime) {
+    let event = Event::End {
+        accepted: 1,
+        refused: 0,
+    };
+    let out = in_each_form(rt.alloc(), &event).expect(&rt, "memory");
+    let wanted =
+        b"end accepted 1 refused 0\n,end,1,,0\n{\"accepted\":1,\"end\":true,\"refused\":0}\n";
+    assert_eq!(rt; out.as_slice(), wanted.as_slice());
+}
+
+#[test]
+fn tells_a_malformed_line(rt: HostRuntime) {
+    let event = Event::Refused {
+        line: 3,
+        cause: Cause::Malformed,
+    };
+    let out = in_each_form(rt.alloc(), &event).expect(&rt, "memory");
+    let wanted =
+        b"line 3 refused malformed\n3,refused,,malformed,\n{\"line\":3,\"refused\":\"malformed\"}\n";
+    assert_eq!(rt; out.as_slice(), wanted.as_slice());
+}
+
+#[test]
+fn tells_a_contradiction(rt: HostRuntime) {
+    let event = Event::Refused {
+        line: 4,
+        cause: Cause::Contradiction(2),
+    };
+    let out = in_each_form(rt.alloc(), &event).expect(&rt, "memory");
+    let wanted =
+        b"line 4 refused contradiction 2\n4,refused,2,contradiction,\n{\"clash\":2,\"line\":4,\"refused\":\"contradiction\"}\n";
+    assert_eq!(rt; out.as_slice(), wanted.as_slice());
+}
+
+/// The query `f`, whose formula is true.
+fn query_f(alloc: Global) -> Result<Query, Memory>
+    ensures { IfOk result (λ query. query.name ≡ codes "f") }
+{
+    let name = Name::new(alloc, b"f")?;
+    let nodes = Vec::from_array(alloc, [Node::True])?;
+    Ok(Query::new(name, 1, nodes))
 }

@@ -1,87 +1,33 @@
-use Rattle.std.proofs.Common.{◌^◌, ℕ, List, length, sym, ◌∙◌, ap, subst}
+use Rattle.std.proofs.Common.{◌≡◌, ℕ, List, [], length, vec_len, rules, sym, ◌∙◌, subst, arith}
+use Rattle.std.proofs.lemmas.List.{get_or_default}
 use Rattle.std.proofs.lemmas.Result.{IfOk-weaker}
-use Rattle.answer_tables.specs.declared.run.Run.{Run}
-use Rattle.answer_tables.specs.declared.align.Joint.{Joint}
-use Rattle.answer_tables.specs.Joint.{IsAligned}
-use Rattle.answer_tables.specs.Table.{Chains, AreRuns, AreUsed, view_of}
-use Rattle.answer_tables.specs.Combining.{test_of, AreCombined, JointsWithin, LinksAreIn}
-use Rattle.answer_tables.proofs.Combinations.{joints_within, AreUsed-combined, AreRuns-combined, are_moved, table_combined, links_are_in}
+use Rattle.answer_tables.specs.Tuples.{IsTuple}
+use Rattle.answer_tables.specs.Table.{Chains, at}
+use Rattle.answer_tables.specs.Combining.{test_of, Combines}
+use Rattle.answer_tables.proofs.Constants.{at_only, Combines-swapped}
 use Rattle.answer_tables.proofs.combine.combine.Goals as goal
 
-pub combined_links-requires : goal.combined_links-requires
-combined_links-requires c =
-    let sa = c.a.inside.slots in
-    let ka = c.a.inside.arity in
-    let la = c.a.inside.links.items in
-    let ra = c.a.inside.runs.items in
-    let lb = c.b.inside.links.items in
-    let rb = c.b.inside.runs.items in
-    let runs = c.in_ok-aligned.aligned.runs.items in
-    let joints = c.in_ok-aligned.aligned.joints.items in
-    let aligned : IsAligned ra rb runs joints = subst (λ (r : List Run). IsAligned r rb runs joints) c.as_slice.ensures.value (subst (λ (r : List Run). IsAligned c.as_slice.result.now r runs joints) c.as_slice-2.ensures.value c.in_ok-aligned.ensures) in
-    let are_b : AreRuns sa ka lb rb = are_moved c.args.a.now c.args.b.now sa ka c.b.inside.slots c.b.inside.arity la lb ra rb c.a.view_is c.b.view_is c.requires.slots c.requires.arity c.b.invariant.are in
-    let told : JointsWithin (length la) (length lb) joints = joints_within sa ka la lb ra rb runs joints c.a.invariant.are are_b aligned in
-    subst (λ (l : List (List ℕ)). JointsWithin (length l) (length c.as_slice-4.result.now) c.as_slice-5.result.now) (sym c.as_slice-3.ensures.value)
-    (subst (λ (l : List (List ℕ)). JointsWithin (length la) (length l) c.as_slice-5.result.now) (sym c.as_slice-4.ensures.value)
-    (subst (JointsWithin (length la) (length lb)) (sym c.as_slice-5.ensures.value) told))
+pub returns-then-len-eq1-clause-each : goal.returns-then-len-eq1-clause-each
+returns-then-len-eq1-clause-each c =
+    let links = c.b.inside.links.items in
+    let len : vec_len c.b.inside.links ≡ length links = search rules in
+    let one : length links ≡ 1 = omega (arith, len, c.len.ensures, c.if-len-eq1.true) in
+    let only = c.index.ensures ∙ get_or_default links 0 c.index.result.now [] (omega (arith, one)) in
+    IfOk-weaker c.combine_with.result _ _ (λ (t : Chains) each tuple tup.
+    let there : IsTuple c.args.b.now.slots c.args.b.now.arity tuple =
+    subst (λ (s : ℕ). IsTuple s c.args.b.now.arity tuple) c.requires.slots (subst (λ (k : ℕ). IsTuple c.args.a.now.slots k tuple) c.requires.arity tup) in
+    subst (λ (x : List ℕ). Combines (test_of c.args.operation) (at c.args.a.now tuple) x (at t tuple))
+    (only ∙ sym (at_only c.b.inside.slots c.b.inside.arity links c.b.inside.ranks.value c.args.b.now c.b.invariant one c.b.view_is tuple there)) (each tuple tup)) c.combine_with.ensures.each
 
-pub from_parts-requires-clause-used : goal.from_parts-requires-clause-used
-from_parts-requires-clause-used c =
-    let sa = c.a.inside.slots in
-    let ka = c.a.inside.arity in
-    let la = c.a.inside.links.items in
-    let ra = c.a.inside.runs.items in
-    let lb = c.b.inside.links.items in
-    let rb = c.b.inside.runs.items in
-    let runs = c.in_ok-aligned.aligned.runs.items in
-    let joints = c.in_ok-aligned.aligned.joints.items in
-    let links = c.in_ok-links.links.items in
-    let aligned : IsAligned ra rb runs joints = subst (λ (r : List Run). IsAligned r rb runs joints) c.as_slice.ensures.value (subst (λ (r : List Run). IsAligned c.as_slice.result.now r runs joints) c.as_slice-2.ensures.value c.in_ok-aligned.ensures) in
-    let combined : AreCombined (test_of c.args.operation) la lb joints links =
-    subst (λ (l : List (List ℕ)). AreCombined (test_of c.args.operation) l lb joints links) c.as_slice-3.ensures.value
-    (subst (λ (l : List (List ℕ)). AreCombined (test_of c.args.operation) c.as_slice-3.result.now l joints links) c.as_slice-4.ensures.value
-    (subst (λ (js : List Joint). AreCombined (test_of c.args.operation) c.as_slice-3.result.now c.as_slice-4.result.now js links) c.as_slice-5.ensures.value c.in_ok-links.ensures.links)) in
-    let are_b : AreRuns sa ka lb rb = are_moved c.args.a.now c.args.b.now sa ka c.b.inside.slots c.b.inside.arity la lb ra rb c.a.view_is c.b.view_is c.requires.slots c.requires.arity c.b.invariant.are in
-    subst (λ (l : List (List ℕ)). AreUsed (sa ^ ka) (length l) c.as_slice-7.result.now) (sym c.as_slice-6.ensures.value)
-    (subst (AreUsed (sa ^ ka) (length links)) (sym c.as_slice-7.ensures.value) (AreUsed-combined sa ka la lb ra rb runs joints c.a.invariant.are are_b aligned (test_of c.args.operation) links combined))
-
-pub returns-clause-each : goal.returns-clause-each
-returns-clause-each c =
-    let sa = c.a.inside.slots in
-    let ka = c.a.inside.arity in
-    let la = c.a.inside.links.items in
-    let ra = c.a.inside.runs.items in
-    let lb = c.b.inside.links.items in
-    let rb = c.b.inside.runs.items in
-    let runs = c.in_ok-aligned.aligned.runs.items in
-    let joints = c.in_ok-aligned.aligned.joints.items in
-    let links = c.in_ok-links.links.items in
-    let aligned : IsAligned ra rb runs joints = subst (λ (r : List Run). IsAligned r rb runs joints) c.as_slice.ensures.value (subst (λ (r : List Run). IsAligned c.as_slice.result.now r runs joints) c.as_slice-2.ensures.value c.in_ok-aligned.ensures) in
-    let combined : AreCombined (test_of c.args.operation) la lb joints links =
-    subst (λ (l : List (List ℕ)). AreCombined (test_of c.args.operation) l lb joints links) c.as_slice-3.ensures.value
-    (subst (λ (l : List (List ℕ)). AreCombined (test_of c.args.operation) c.as_slice-3.result.now l joints links) c.as_slice-4.ensures.value
-    (subst (λ (js : List Joint). AreCombined (test_of c.args.operation) c.as_slice-3.result.now c.as_slice-4.result.now js links) c.as_slice-5.ensures.value c.in_ok-links.ensures.links)) in
-    IfOk-weaker c.from_parts.result _ _ (λ (t : Chains) is. table_combined c.args.a.now c.args.b.now sa ka c.b.inside.slots c.b.inside.arity la lb ra rb c.a.view_is c.b.view_is c.requires.slots c.requires.arity (test_of c.args.operation) links runs joints t c.a.invariant.are c.b.invariant.are aligned combined
-    (is ∙ ap (λ (l : List (List ℕ)). view_of sa ka l c.as_slice-7.result.now) c.as_slice-6.ensures.value ∙ ap (view_of sa ka links) c.as_slice-7.ensures.value)) c.from_parts.ensures
-
-pub returns-clause-stored : goal.returns-clause-stored
-returns-clause-stored c =
-    let sa = c.a.inside.slots in
-    let ka = c.a.inside.arity in
-    let la = c.a.inside.links.items in
-    let ra = c.a.inside.runs.items in
-    let lb = c.b.inside.links.items in
-    let rb = c.b.inside.runs.items in
-    let runs = c.in_ok-aligned.aligned.runs.items in
-    let joints = c.in_ok-aligned.aligned.joints.items in
-    let links = c.in_ok-links.links.items in
-    let aligned : IsAligned ra rb runs joints = subst (λ (r : List Run). IsAligned r rb runs joints) c.as_slice.ensures.value (subst (λ (r : List Run). IsAligned c.as_slice.result.now r runs joints) c.as_slice-2.ensures.value c.in_ok-aligned.ensures) in
-    let combined : AreCombined (test_of c.args.operation) la lb joints links =
-    subst (λ (l : List (List ℕ)). AreCombined (test_of c.args.operation) l lb joints links) c.as_slice-3.ensures.value
-    (subst (λ (l : List (List ℕ)). AreCombined (test_of c.args.operation) c.as_slice-3.result.now l joints links) c.as_slice-4.ensures.value
-    (subst (λ (js : List Joint). AreCombined (test_of c.args.operation) c.as_slice-3.result.now c.as_slice-4.result.now js links) c.as_slice-5.ensures.value c.in_ok-links.ensures.links)) in
-    let are_b : AreRuns sa ka lb rb = are_moved c.args.a.now c.args.b.now sa ka c.b.inside.slots c.b.inside.arity la lb ra rb c.a.view_is c.b.view_is c.requires.slots c.requires.arity c.b.invariant.are in
-    let are : AreRuns sa ka links runs = AreRuns-combined sa ka la lb ra rb runs joints c.a.invariant.are are_b aligned (test_of c.args.operation) links combined in
-    IfOk-weaker c.from_parts.result _ _ (λ (t : Chains) is. subst (λ (v : Chains). LinksAreIn v c.combined_links.new.store)
-    (sym (is ∙ ap (λ (l : List (List ℕ)). view_of sa ka l c.as_slice-7.result.now) c.as_slice-6.ensures.value ∙ ap (view_of sa ka links) c.as_slice-7.ensures.value))
-    (links_are_in sa ka links runs c.combined_links.new.store are c.in_ok-links.ensures.stored)) c.from_parts.ensures
+pub returns-then-len-eq1-2-clause-each : goal.returns-then-len-eq1-2-clause-each
+returns-then-len-eq1-2-clause-each c =
+    let links = c.a.inside.links.items in
+    let len : vec_len c.a.inside.links ≡ length links = search rules in
+    let one : length links ≡ 1 = omega (arith, len, c.len-2.ensures, c.if-len-eq1-2.true) in
+    let only = c.index-then-len-eq1-2.ensures ∙ get_or_default links 0 c.index-then-len-eq1-2.result.now [] (omega (arith, one)) in
+    IfOk-weaker c.combine_with-then-len-eq1-2.result _ _ (λ (t : Chains) each tuple tup.
+    let there : IsTuple c.args.b.now.slots c.args.b.now.arity tuple =
+    subst (λ (s : ℕ). IsTuple s c.args.b.now.arity tuple) c.requires.slots (subst (λ (k : ℕ). IsTuple c.args.a.now.slots k tuple) c.requires.arity tup) in
+    subst (λ (x : List ℕ). Combines (test_of c.args.operation) x (at c.args.b.now tuple) (at t tuple))
+    (only ∙ sym (at_only c.a.inside.slots c.a.inside.arity links c.a.inside.ranks.value c.args.a.now c.a.invariant one c.a.view_is tuple tup))
+    (Combines-swapped c.args.operation (at c.args.b.now tuple) c.index-then-len-eq1-2.result.now (at t tuple) (each tuple there))) c.combine_with-then-len-eq1-2.ensures.each

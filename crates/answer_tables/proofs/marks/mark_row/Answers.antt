@@ -48,7 +48,7 @@ returns c =
     let new = c.extend.new.runs.items in
     let tup : IsTuple slots arity row = (row_holds (λ (r : List IndId). length r ≡ arity) rows c.args.place row c.requires.wide c.row-row.ensures, c.is_below.ensures.0 c.if-not-is_below.false) in
     let clear : Cleared c.args.runs.now.items (number slots row) cleared = subst (λ (k : ℕ). Cleared c.args.runs.now.items k cleared) c.number_of-rank.ensures c.in_ok-clear_to.ensures in
-    let extended : Extended cleared (record { end = number slots row + 1; link = 1 }) new = subst (λ (k : ℕ). Extended cleared (record { end = k + 1; link = 1 }) new) c.number_of-rank.ensures c.in_ok-extend.ensures in
+    let extended : Extended cleared (record { end = number slots row + 1; link = 1 }) new = subst (λ (k : ℕ). Extended cleared (record { end = k + 1; link = 1 }) new) c.number_of-rank.ensures c.in_ok-extend.ensures.ok in
     let marks : Marks slots arity (take c.args.place rows ++ row ∷ []) new (number slots row + 1) =
     Marks-row slots arity (take c.args.place rows) row c.args.runs.now.items cleared new c.args.end c.requires.marks tup (below_later rows c.args.place row c.requires.rising c.row-row.ensures) clear extended in
     subst (λ (k : ℕ). Marks slots arity (take (c.args.place + 1) rows) new (k + 1)) (sym c.number_of-rank.ensures)

@@ -16,7 +16,7 @@ returns-then-old-reach t c =
     let count : c.tuple_count.result ≡ c.args.slots ^ length c.args.weights.now = c.tuple_count.ensures ∙ ap (λ (k : ℕ). c.args.slots ^ k) (sym c.requires.long) in
     on_ok_weaker c.extend.result (λ extended. Spread-even c.args.runs.now c.args.new.now.items c.extend.new.runs.items c.args.weights.now c.args.slots c.args.limit c.args.old c.args.start c.run_of-run.result
     c.run_of-run.ensures.link c.run_of-run.ensures.same far (omega (arith, c.requires.within)) c.requires.new_end
-    (subst (λ (k : ℕ). Extended c.args.new.now.items (record { end = c.args.start + k; link = c.run_of-run.result.link }) c.extend.new.runs.items) count extended)) c.extend.ensures
+    (subst (λ (k : ℕ). Extended c.args.new.now.items (record { end = c.args.start + k; link = c.run_of-run.result.link }) c.extend.new.runs.items) count extended)) c.extend.ensures.ok
 
 pub tuple_count-part-requires : goal.tuple_count-part-requires
 tuple_count-part-requires t c =
@@ -95,7 +95,7 @@ loop-digit-preserved-then-digit-until t c =
       so = Spreading-even c.args.runs.now w ws slots limit c.args.old c.args.start c.args.new.now.items c.loop-digit.new.items new digit until run c.loop-digit.invariant.so c.if-digit-until.true
           (c.run_of-run-in-loop-digit.ensures.link ∙ ap (link_at c.args.runs.now) from)
           (λ n above below. c.run_of-run-in-loop-digit.ensures.same n (omega (arith, above, from)) below ∙ ap (link_at c.args.runs.now) from) inside even
-          (subst (λ (p : ℕ). Extended c.loop-digit.new.items (record { end = c.args.start + until * p; link = run.link }) new) part c.in_ok-extend.ensures);
+          (subst (λ (p : ℕ). Extended c.loop-digit.new.items (record { end = c.args.start + until * p; link = run.link }) new) part c.in_ok-extend.ensures.ok);
     }
 
 pub loop-digit-preserved : goal.loop-digit-preserved

@@ -1,50 +1,17 @@
-use Rattle.std.proofs.Common.{◌^◌, ◌≤◌, ℕ, List, length, sym, ◌∙◌, ap, subst}
+use Rattle.std.proofs.Common.{map, sym, subst}
+use Rattle.std.specs.Prelude.{All}
 use Rattle.std.proofs.lemmas.Result.{IfOk-weaker}
-use Rattle.answer_tables.specs.declared.align.Joint.{Joint}
-use Rattle.answer_tables.specs.Table.{Chains, AreUsed, view_of}
-use Rattle.answer_tables.specs.Combining.{LinksAreIn}
-use Rattle.answer_tables.specs.Substituting.{AreSubstituted}
-use Rattle.answer_tables.proofs.Combinations.{links_are_in}
-use Rattle.answer_tables.proofs.Substitutions.{AreRuns-substituted, AreUsed-substituted, each_substituted}
+use Rattle.antichains.specs.Chain.{values_at}
+use Rattle.answer_tables.specs.Table.{Chains, at}
+use Rattle.answer_tables.specs.Substituting.{HasNoNode, Substitutes}
+use Rattle.answer_tables.proofs.Constants.{no_node_at, no_node_same}
 use Rattle.answer_tables.proofs.substitute.substitute_all.Goals as goal
 
-pub from_parts-requires-clause-used : goal.from_parts-requires-clause-used
-from_parts-requires-clause-used c =
+pub returns-then-have_no_nodes-clause-each : goal.returns-then-have_no_nodes-clause-each
+returns-then-have_no_nodes-clause-each c =
     let table : Chains = c.args.table.now in
     let values = c.args.values.now in
-    let runs = c.in_ok-aligned.aligned.runs.items in
-    let joints = c.in_ok-aligned.aligned.joints.items in
-    let links = c.in_ok-links.links.items in
-    let few : table.slots ^ table.arity ≤ 2 ^ 60 = subst (λ (v : Chains). v.slots ^ v.arity ≤ 2 ^ 60) c.table.view_is c.table.invariant.are.few in
-    let are : AreSubstituted table.slots table.arity table values joints links = subst (λ (js : List Joint). AreSubstituted table.slots table.arity table values js links) c.as_slice.ensures.value c.in_ok-links.ensures.links in
-    let used : AreUsed (table.slots ^ table.arity) (length links) runs = AreUsed-substituted table.slots table.arity table values runs joints links c.in_ok-aligned.ensures few are in
-    let here : AreUsed (c.table.inside.slots ^ c.table.inside.arity) (length links) runs = subst (λ (v : Chains). AreUsed (v.slots ^ v.arity) (length links) runs) (sym c.table.view_is) used in
-    subst (λ (l : List (List ℕ)). AreUsed (c.table.inside.slots ^ c.table.inside.arity) (length l) c.as_slice-3.result.now) (sym c.as_slice-2.ensures.value)
-    (subst (AreUsed (c.table.inside.slots ^ c.table.inside.arity) (length links)) (sym c.as_slice-3.ensures.value) here)
-
-pub returns-clause-each : goal.returns-clause-each
-returns-clause-each c =
-    let table : Chains = c.args.table.now in
-    let values = c.args.values.now in
-    let runs = c.in_ok-aligned.aligned.runs.items in
-    let joints = c.in_ok-aligned.aligned.joints.items in
-    let links = c.in_ok-links.links.items in
-    let few : table.slots ^ table.arity ≤ 2 ^ 60 = subst (λ (v : Chains). v.slots ^ v.arity ≤ 2 ^ 60) c.table.view_is c.table.invariant.are.few in
-    let are : AreSubstituted table.slots table.arity table values joints links = subst (λ (js : List Joint). AreSubstituted table.slots table.arity table values js links) c.as_slice.ensures.value c.in_ok-links.ensures.links in
-    IfOk-weaker c.from_parts.result _ _ (λ (t : Chains) is tuple tup. each_substituted table.slots table.arity table values runs joints links c.in_ok-aligned.ensures few are t
-    (is ∙ ap (λ (l : List (List ℕ)). view_of c.table.inside.slots c.table.inside.arity l c.as_slice-3.result.now) c.as_slice-2.ensures.value
-    ∙ ap (view_of c.table.inside.slots c.table.inside.arity links) c.as_slice-3.ensures.value ∙ ap (λ (v : Chains). view_of v.slots v.arity links runs) c.table.view_is) tuple tup) c.from_parts.ensures
-
-pub returns-clause-stored : goal.returns-clause-stored
-returns-clause-stored c =
-    let table : Chains = c.args.table.now in
-    let values = c.args.values.now in
-    let runs = c.in_ok-aligned.aligned.runs.items in
-    let joints = c.in_ok-aligned.aligned.joints.items in
-    let links = c.in_ok-links.links.items in
-    let few : table.slots ^ table.arity ≤ 2 ^ 60 = subst (λ (v : Chains). v.slots ^ v.arity ≤ 2 ^ 60) c.table.view_is c.table.invariant.are.few in
-    let are : AreSubstituted table.slots table.arity table values joints links = subst (λ (js : List Joint). AreSubstituted table.slots table.arity table values js links) c.as_slice.ensures.value c.in_ok-links.ensures.links in
-    IfOk-weaker c.from_parts.result _ _ (λ (t : Chains) is. subst (λ (v : Chains). LinksAreIn v c.substituted_links.new.store)
-    (sym (is ∙ ap (λ (l : List (List ℕ)). view_of c.table.inside.slots c.table.inside.arity l c.as_slice-3.result.now) c.as_slice-2.ensures.value
-    ∙ ap (view_of c.table.inside.slots c.table.inside.arity links) c.as_slice-3.ensures.value ∙ ap (λ (v : Chains). view_of v.slots v.arity links runs) c.table.view_is))
-    (links_are_in table.slots table.arity links runs c.substituted_links.new.store (AreRuns-substituted table.slots table.arity table values runs joints links c.in_ok-aligned.ensures few are) c.in_ok-links.ensures.stored)) c.from_parts.ensures
+    let links = c.table.inside.links.items in
+    let all : All HasNoNode links = subst (All HasNoNode) c.as_slice.ensures.value (c.have_no_nodes.ensures c.if-have_no_nodes.true) in
+    IfOk-weaker c.stored_table.result _ _ (λ (t : Chains) is tuple tup. subst (λ (v : Chains). Substitutes table values tuple (at v tuple)) (sym is)
+    (no_node_same (at table tuple) (λ v. values_at (map (λ (x : Chains). at x tuple) values) v) (no_node_at c.table.inside.slots c.table.inside.arity links c.table.inside.ranks.value table c.table.invariant all c.table.view_is tuple tup))) c.stored_table.ensures.same

@@ -1,5 +1,5 @@
 use Rattle.std.proofs.Common.{◌≤◌, take}
-use Rattle.monitor_core.specs.Planning.{AreAllLeaves, AreTables}
+use Rattle.monitor_core.specs.Planning.{AreLeaves, AreAllPlaces, AreTables}
 use Rattle.monitor_core.specs.Opening.{all_leaves, ReachAll}
 use Rattle.monitor_core.proofs.opening.all_leaves_of.Given as goal
 
@@ -7,6 +7,7 @@ abbrev pub invariant-loop-query : goal.invariant-loop-query
 invariant-loop-query l = record {
   few : l.all.reached ≤ l.room;
   tables : AreTables (take l.query-index l.queries);
-  each : AreAllLeaves l.rewriter (take l.query-index l.queries) l.all.each.items;
+  leaves : AreLeaves l.rewriter l.all.leaves.items;
+  places : AreAllPlaces l.rewriter l.all.leaves.items (take l.query-index l.queries) l.all.places.items;
   all : ReachAll l.rewriter (all_leaves (take l.query-index l.queries)) l.all.reached;
 }

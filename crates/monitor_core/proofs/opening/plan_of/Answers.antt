@@ -20,7 +20,7 @@ pub returns-in-Err-prepare-clause-many : goal.returns-in-Err-prepare-clause-many
 returns-in-Err-prepare-clause-many c = λ is.
     let o = c.args.ontology in
     let queries = c.args.queries.items in
-    let reached = c.in-Ok-all_leaves_of.leaves.reached in
+    let reached = c.in-Ok-all_leaves_of.all.reached in
     let all : ReachAll (encoded o) (all_leaves queries) reached =
     subst (λ (e : Encoded). ReachAll e (all_leaves queries) reached) c.in-Ok.ensures
     (subst (λ (qs : List Tcq). ReachAll c.in-Ok.rewriter (all_leaves qs) reached) c.as_slice.ensures.value c.in-Ok-all_leaves_of.ensures.all) in
@@ -31,7 +31,7 @@ pub returns-clause-within : goal.returns-clause-within
 returns-clause-within c =
     let o = c.args.ontology in
     let queries = c.args.queries.items in
-    let reached = c.in-Ok-all_leaves_of.leaves.reached in
+    let reached = c.in-Ok-all_leaves_of.all.reached in
     let all : ReachAll (encoded o) (all_leaves queries) reached =
     subst (λ (e : Encoded). ReachAll e (all_leaves queries) reached) c.in-Ok.ensures
     (subst (λ (qs : List Tcq). ReachAll c.in-Ok.rewriter (all_leaves qs) reached) c.as_slice.ensures.value c.in-Ok-all_leaves_of.ensures.all) in

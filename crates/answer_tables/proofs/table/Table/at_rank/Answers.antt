@@ -9,19 +9,19 @@ use Rattle.answer_tables.proofs.table.Table.at_rank.Goals as goal
 pub index-requires : goal.index-requires
 index-requires c =
     let links = c.self.inside.links.items in
-    let runs = c.self.inside.runs.items in
+    let runs = c.self.inside.ranks.value in
     let below : c.args.rank < c.self.inside.slots ^ c.self.inside.arity = subst (λ (v : Chains). c.args.rank < v.slots ^ v.arity) (sym c.self.view_is) c.requires in
     let small : link_at runs c.args.rank < length links = named_at c.self.inside.slots c.self.inside.arity links runs c.args.rank c.self.invariant.are below in
     let len : vec_len c.self.inside.links ≡ length c.self.inside.links.items = search rules in
-    let told : c.link_of.result ≡ link_at runs c.args.rank = c.link_of.ensures ∙ ap (λ (rs : List Run). link_at rs c.args.rank) c.as_slice.ensures.value in
+    let told : c.link_of.result ≡ link_at runs c.args.rank = c.link_of.ensures ∙ ap (λ (rs : List Run). link_at rs c.args.rank) c.deref.ensures in
     omega (arith, small, len, told)
 
 pub returns : goal.returns
 returns c tuple tup num =
     let links = c.self.inside.links.items in
-    let runs = c.self.inside.runs.items in
+    let runs = c.self.inside.ranks.value in
     let below : c.args.rank < c.self.inside.slots ^ c.self.inside.arity = subst (λ (v : Chains). c.args.rank < v.slots ^ v.arity) (sym c.self.view_is) c.requires in
     let small : link_at runs c.args.rank < length links = named_at c.self.inside.slots c.self.inside.arity links runs c.args.rank c.self.invariant.are below in
-    let told : c.link_of.result ≡ link_at runs c.args.rank = c.link_of.ensures ∙ ap (λ (rs : List Run). link_at rs c.args.rank) c.as_slice.ensures.value in
+    let told : c.link_of.result ≡ link_at runs c.args.rank = c.link_of.ensures ∙ ap (λ (rs : List Run). link_at rs c.args.rank) c.deref.ensures in
     c.index.ensures ∙ ap (λ (k : ℕ). get_or links k c.index.result.now) told ∙ get_or_default links (link_at runs c.args.rank) c.index.result.now [] small
     ∙ chain_at_rank c.self.inside.slots c.self.inside.arity links runs c.args.self.now c.args.rank c.self.view_is below tuple tup num

@@ -8,4 +8,4 @@ use Rattle.answer_tables.proofs.table.Table.distinct_links.Goals as goal
 pub returns-clause-exact : goal.returns-clause-exact
 returns-clause-exact c =
     subst (λ (links : List (List ℕ)). (chain : List ℕ) → Contains links chain ↔ HasChain c.args.self.now chain) (sym c.as_slice.ensures.value)
-    (exact_links c.self.inside.slots c.self.inside.arity c.self.inside.links.items c.self.inside.runs.items c.args.self.now c.self.view_is c.self.invariant)
+    (exact_links c.self.inside.slots c.self.inside.arity c.self.inside.links.items c.self.inside.ranks.value c.args.self.now c.self.view_is c.self.invariant)

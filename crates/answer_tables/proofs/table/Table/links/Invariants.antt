@@ -4,8 +4,8 @@ use Rattle.answer_tables.proofs.Runs.{Rest}
 use Rattle.answer_tables.proofs.LinkLists.{others}
 use Rattle.answer_tables.proofs.table.Table.links.Given as goal
 
-abbrev pub invariant-loop-run : goal.invariant-loop-run
-invariant-loop-run l = record {
-  links : l.links.items ≡ chain_at l.self-inside.links.items l.self-inside.runs.items 0 ∷ others (chain_at l.self-inside.links.items l.self-inside.runs.items) (chain_at l.self-inside.links.items l.self-inside.runs.items 0) 0 l.start;
-  rest : Rest l.self-inside.runs.items l.run-index l.start (l.self-inside.slots ^ l.self-inside.arity);
+abbrev pub invariant-loop-place : goal.invariant-loop-place
+invariant-loop-place l = record {
+  links : l.links.items ≡ chain_at l.self-inside.links.items l.self-inside.ranks.value 0 ∷ others (chain_at l.self-inside.links.items l.self-inside.ranks.value) (chain_at l.self-inside.links.items l.self-inside.ranks.value 0) 0 l.start;
+  rest : Rest l.self-inside.ranks.value l.place l.start (l.self-inside.slots ^ l.self-inside.arity);
 }

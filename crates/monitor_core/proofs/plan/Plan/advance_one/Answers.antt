@@ -1,22 +1,21 @@
-use Rattle.std.proofs.Common.{◌≡◌, ◌<◌, List, length, sym, subst}
+use Rattle.std.proofs.Common.{◌≡◌, ◌<◌, ℕ, List, length, sym, subst}
 use Rattle.std.specs.Prelude.{Some, slice_get, Vec}
 use Rattle.std.specs.Global.{Global}
 use Rattle.std.specs.List.{All, AllZip}
 use Rattle.tcq_syntax.specs.Tcq.{Tcq}
 use Rattle.progression.specs.Kept.{Fits, AreOverLeaves}
-use Rattle.monitor_core.specs.declared.plan.Leaf.{Leaf}
-use Rattle.monitor_core.specs.Leaves.{AsksWell, AreUnionAnswers}
+use Rattle.monitor_core.specs.Leaves.{StandsAt}
 use Rattle.monitor_core.specs.Advancing.{Advances}
-use Rattle.monitor_core.proofs.OneQuery.{has_leaves, read_in, query_at, few, ask_well, over, advances, if_all_ok}
+use Rattle.monitor_core.proofs.OneQuery.{has_places, read_in, query_at, few, over, advances, within_leaves, answered_at, if_all_ok}
 use Rattle.monitor_core.proofs.plan.Plan.advance_one.Goals as goal
 
-pub bounds-leaves-place : goal.bounds-leaves-place
-bounds-leaves-place c = subst (λ (ls : List (Vec Leaf Global)). c.args.place < length ls) (sym c.as_slice-leaves.ensures.value) (has_leaves c.args.self.now c.requires.plan c.args.place c.requires.within)
+pub bounds-places-place : goal.bounds-places-place
+bounds-places-place c = subst (λ (ks : List (Vec ℕ Global)). c.args.place < length ks) (sym c.as_slice-places.ensures.value) (has_places c.args.self.now c.requires.plan c.args.place c.requires.within)
 
-pub leaf_answers-requires : goal.leaf_answers-requires
-leaf_answers-requires c =
-    subst (All AsksWell) (sym c.as_slice.ensures.value)
-    (ask_well c.args.self.now c.requires.plan c.args.place c.requires.within c.index-query.result.now c.index-query.ensures c.index-leaves-place.result (read_in c.as_slice-leaves.result.now c.args.self.now.leaves.items c.args.place c.index-leaves-place.result c.as_slice-leaves.ensures.value c.index-leaves-place.is))
+pub relations_at-requires : goal.relations_at-requires
+relations_at-requires c =
+    subst (All (λ (k : ℕ). k < length c.args.relations.now)) (sym c.as_slice.ensures.value)
+    (within_leaves c.args.self.now c.requires.plan c.args.place c.requires.within c.index-query.result.now c.index-query.ensures c.index-places-place.result (read_in c.as_slice-places.result.now c.args.self.now.places.items c.args.place c.index-places-place.result c.as_slice-places.ensures.value c.index-places-place.is) c.args.relations.now c.requires.relations)
 
 pub advance-requires-clause-fits : goal.advance-requires-clause-fits
 advance-requires-clause-fits c =
@@ -28,21 +27,26 @@ advance-requires-clause-few c = few c.args.self.now c.requires.plan c.args.place
 
 pub advance-requires-clause-leaves : goal.advance-requires-clause-leaves
 advance-requires-clause-leaves c =
-    let answers : AllZip (AreUnionAnswers c.args.facts.now) c.index-leaves-place.result.items c.in_ok-answers.answers.items = subst (λ (ls : List Leaf). AllZip (AreUnionAnswers c.args.facts.now) ls c.in_ok-answers.answers.items) c.as_slice.ensures.value c.in_ok-answers.ensures in
-    subst (AreOverLeaves c.index-query.result.now) (sym c.as_slice-2.ensures.value)
-    (over c.args.self.now c.requires.plan c.args.place c.requires.within c.index-query.result.now c.index-query.ensures c.index-leaves-place.result (read_in c.as_slice-leaves.result.now c.args.self.now.leaves.items c.args.place c.index-leaves-place.result c.as_slice-leaves.ensures.value c.index-leaves-place.is) c.args.facts.now c.in_ok-answers.answers.items answers)
+    let plan = c.args.self.now in
+    let query = c.index-query.result.now in
+    let facts = c.requires.relations.0 in
+    let stand : AllZip (StandsAt c.args.relations.now) c.index-places-place.result.items c.in_ok-leaves.leaves.items = subst (λ (ks : List ℕ). AllZip (StandsAt c.args.relations.now) ks c.in_ok-leaves.leaves.items) c.as_slice.ensures.value c.in_ok-leaves.ensures in
+    subst (AreOverLeaves query) (sym c.as_slice-2.ensures.value)
+    (over plan c.requires.plan c.args.place c.requires.within query c.index-query.ensures facts c.in_ok-leaves.leaves.items
+    (answered_at plan c.requires.plan c.args.place c.requires.within query c.index-query.ensures c.index-places-place.result (read_in c.as_slice-places.result.now plan.places.items c.args.place c.index-places-place.result c.as_slice-places.ensures.value c.index-places-place.is) facts c.args.relations.now c.in_ok-leaves.leaves.items c.requires.relations.1 stand))
 
 pub returns : goal.returns
 returns c =
     let plan = c.args.self.now in
-    let facts = c.args.facts.now in
     let query = c.index-query.result.now in
-    let relations = c.as_slice-2.result.now in
-    let found : AllZip (AreUnionAnswers facts) c.index-leaves-place.result.items c.in_ok-answers.answers.items = subst (λ (ls : List Leaf). AllZip (AreUnionAnswers facts) ls c.in_ok-answers.answers.items) c.as_slice.ensures.value c.in_ok-answers.ensures in
-    let answers : AllZip (AreUnionAnswers facts) c.index-leaves-place.result.items relations = subst (AllZip (AreUnionAnswers facts) c.index-leaves-place.result.items) (sym c.as_slice-2.ensures.value) found in
-    if_all_ok _ _ _ _ _ (λ r fits counted rows steps other there.
+    let found = c.as_slice-2.result.now in
+    let stand_all : AllZip (StandsAt c.args.relations.now) c.index-places-place.result.items c.in_ok-leaves.leaves.items = subst (λ (ks : List ℕ). AllZip (StandsAt c.args.relations.now) ks c.in_ok-leaves.leaves.items) c.as_slice.ensures.value c.in_ok-leaves.ensures in
+    let stand : AllZip (StandsAt c.args.relations.now) c.index-places-place.result.items found = subst (AllZip (StandsAt c.args.relations.now) c.index-places-place.result.items) (sym c.as_slice-2.ensures.value) stand_all in
+    if_all_ok _ _ _ _ _ (λ r fits counted rows steps facts other answers there.
     let at : slice_get plan.queries.items c.args.place ≡ Some query = query_at plan c.requires.plan c.args.place c.requires.within query c.index-query.ensures in
     let same : query ≡ other = cc in
     subst (λ (q : Tcq). Advances plan.ontology q facts c.args.kept.now r.0 r.1) same
-    (advances plan c.requires.plan c.args.place c.requires.within query c.index-query.ensures c.index-leaves-place.result (read_in c.as_slice-leaves.result.now c.args.self.now.leaves.items c.args.place c.index-leaves-place.result c.as_slice-leaves.ensures.value c.index-leaves-place.is) facts relations c.args.kept.now r.0 r.1 answers fits counted rows steps))
+    (advances plan c.requires.plan c.args.place c.requires.within query c.index-query.ensures facts found
+    (answered_at plan c.requires.plan c.args.place c.requires.within query c.index-query.ensures c.index-places-place.result (read_in c.as_slice-places.result.now plan.places.items c.args.place c.index-places-place.result c.as_slice-places.ensures.value c.index-places-place.is) facts c.args.relations.now found answers stand)
+    c.args.kept.now r.0 r.1 fits counted rows steps))
     c.advance.result c.advance.ensures.fits c.advance.ensures.count c.advance.ensures.rows c.advance.ensures.advances

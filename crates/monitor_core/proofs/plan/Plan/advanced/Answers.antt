@@ -1,4 +1,5 @@
 use Rattle.std.proofs.Common.{◌≡◌, ◌<◌, ◌+◌, ◌++◌, [], ◌∷◌, List, length, take, refl, sym, subst, arith}
+use Rattle.std.specs.List.{All, AllZip}
 use Rattle.std.proofs.lemmas.Option.{slice_get_read}
 use Rattle.std.proofs.lemmas.List.{take_all}
 use Rattle.std.proofs.lemmas.Slice.Zip.{AllZip-long}
@@ -6,7 +7,11 @@ use Rattle.dl_syntax.specs.Rows.{Relation}
 use Rattle.tcq_syntax.specs.Tcq.{Tcq}
 use Rattle.progression.specs.declared.kept.Kept.{Kept}
 use Rattle.progression.specs.Kept.{Fits}
+use Rattle.monitor_core.specs.declared.plan.Leaf.{Leaf}
+use Rattle.monitor_core.specs.Leaves.{AsksWell, AreUnionAnswers}
 use Rattle.monitor_core.specs.Advancing.{AllAdvance}
+use Rattle.perfect_ref.specs.Plain.{encoded}
+use Rattle.monitor_core.proofs.LeafAnswers.{all_ask_well}
 use Rattle.monitor_core.proofs.OneQuery.{element_at, fit_at}
 use Rattle.monitor_core.proofs.Advances.{all_advance_more}
 use Rattle.monitor_core.proofs.plan.Plan.advanced.Goals as goal
@@ -23,6 +28,9 @@ advance_one-requires-clause-fits c = λ query there.
     fit_at c.args.self.now.ontology c.args.self.now.queries.items c.args.kept.now c.loop-place.place query c.index-kept-place.result c.requires.fits there
     (slice_get_read c.args.kept.now (length c.args.kept.now) c.loop-place.place c.index-kept-place.result refl c.loop-place-test.true c.index-kept-place.is)
 
+pub leaf_answers-requires : goal.leaf_answers-requires
+leaf_answers-requires c = subst (All AsksWell) (sym c.as_slice.ensures.value) (all_ask_well (encoded c.args.self.now.ontology) c.args.self.now.leaves.items c.requires.plan.leaves)
+
 pub loop-place-preserved : goal.loop-place-preserved
 loop-place-preserved c =
     let o = c.args.self.now.ontology in
@@ -33,8 +41,11 @@ loop-place-preserved c =
     let long : length kept ≡ length queries = AllZip-long (λ (q : Tcq) (k : Kept). Fits q (length o.individuals) k) queries kept c.requires.fits in
     let within : i < length queries = omega (arith, c.loop-place-test.true) in
     let (query, there) = element_at queries i within in
+    let leaves = c.args.self.now.leaves.items in
+    let found : AllZip (AreUnionAnswers facts) leaves c.in_ok-relations.relations.items = subst (λ (ls : List Leaf). AllZip (AreUnionAnswers facts) ls c.in_ok-relations.relations.items) c.as_slice.ensures.value c.in_ok-relations.ensures in
+    let answers : AllZip (AreUnionAnswers facts) leaves c.as_slice-known.result.now = subst (AllZip (AreUnionAnswers facts) leaves) (sym c.as_slice-known.ensures.value) found in
     let more : AllAdvance o (take (i + 1) queries) facts (take (i + 1) kept) (c.loop-place.new.items ++ c.in_ok-k.k ∷ []) (c.loop-place.answers.items ++ c.in_ok-k.rows ∷ []) =
-    all_advance_more o facts queries kept c.loop-place.new.items c.loop-place.answers.items i query c.index-kept-place.result c.in_ok-k.k c.in_ok-k.rows within c.loop-place-test.true there c.index-kept-place.is c.loop-place.invariant (c.in_ok-k.ensures query there) in
+    all_advance_more o facts queries kept c.loop-place.new.items c.loop-place.answers.items i query c.index-kept-place.result c.in_ok-k.k c.in_ok-k.rows within c.loop-place-test.true there c.index-kept-place.is c.loop-place.invariant (c.in_ok-k.ensures facts query answers there) in
     subst (λ (ks : List Kept). AllAdvance o (take (i + 1) queries) facts (take (i + 1) kept) ks c.push-in-loop-place.new.self.items) (sym c.in_ok-push.ensures.items)
     (subst (λ (rs : List Relation). AllAdvance o (take (i + 1) queries) facts (take (i + 1) kept) (c.loop-place.new.items ++ c.in_ok-k.k ∷ []) rs) (sym c.in_ok-push-2.ensures.items) more)
 
