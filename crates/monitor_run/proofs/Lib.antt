@@ -1,7 +1,12 @@
+mod Arrangements
 mod Rendering
 mod ToldLaws
 mod ReportLaws
 mod Sayings
+mod Sizes
+mod Spelled
+mod MadeStream
+mod Rehearsals
 mod ReplyLaws
 mod Serving
 mod Stopping

@@ -1,67 +1,83 @@
 -- The monitor's replies tell what the definitions tell.
-use Rattle.std.proofs.Common.{◌≡◌, ℕ, ◌+◌, List, [], ◌∷◌, refl, sym, ◌∙◌, ap, subst, append-nil}
-use Rattle.dl_syntax.specs.declared.facts.Fact.{Fact}
+use Rattle.std.proofs.Common.{◌≡◌, ℕ, suc, Option, None, Some, Result, Ok, Err, List, [], ◌∷◌, length, refl, sym, ap, subst, append-nil}
+use Rattle.std.specs.List.{All}
+use Rattle.std.specs.Prelude.{IfOk}
+use Rattle.std.proofs.lemmas.List.Elements.{All-nil, All-cons, All-weaker}
 use Rattle.dl_syntax.specs.Rows.{Relation}
-use Rattle.tcq_syntax.specs.Histories.{History, with_snapshot}
+use Rattle.tcq_syntax.specs.Answers.{IsRow}
 use Rattle.tcq_syntax.specs.Tcq.{Tcq}
+use Rattle.report_text.specs.Names.{IsNamed, AreNamed, AreSpelled, IsSpelledCause}
+use Rattle.report_text.specs.Events.{HasSizes, AreAnswered, EventHasNames}
+use Rattle.monitor_core.specs.Answering.{AreRowsOf, AreAllAnswers}
+use Rattle.monitor_core.specs.Setting.{Setting}
+use Rattle.monitor_run.specs.Drill.{newest}
+use Rattle.dl_syntax.specs.declared.facts.Fact.{Fact}
+use Rattle.dl_syntax.specs.Ontology.{Declared}
+use Rattle.tcq_syntax.specs.Histories.{History, with_snapshot}
 use Rattle.edge_io.specs.Lines.{Item as StreamLine, text, too_long}
 use Rattle.report_text.specs.declared.item.Cause.{Cause}
 use Rattle.report_text.specs.declared.item.Cause.TheVariants.{TooLong, Contradiction}
-use Rattle.report_text.specs.declared.item.Item.TheVariants as item
-use Rattle.snapshot_reader.specs.declared.Form.TheVariants as form
+use Rattle.report_text.specs.declared.event.Event.{Event}
+use Rattle.report_text.specs.declared.event.Event.TheVariants as event
 use Rattle.snapshot_reader.specs.Said.{Said, nothing, says, said}
 use Rattle.snapshot_reader.specs.Said.{refused as is_refused}
-use Rattle.dl_syntax.specs.Ontology.{Declared}
+use Rattle.monitor_core.specs.declared.accept_fault.AcceptFault.{AcceptFault}
+use Rattle.monitor_core.specs.declared.accept_fault.AcceptFault.TheVariants as fault
 use Rattle.monitor_core.specs.Keeping.{Monitored}
-use Rattle.monitor_core.specs.Answering.{AreAllAnswers}
 use Rattle.consistency.specs.Least.{IsLeastClash, IsConsistentUnder}
-use Rattle.monitor_core.specs.Setting.{Setting}
-use Rattle.monitor_core.specs.Standing.{setting_of, Stands, Accepts, count_of}
-use Rattle.monitor_run.specs.declared.reply.Reply.{Reply}
-use Rattle.monitor_run.specs.declared.reply.Reply.TheVariants.{Skip, Refused}
+use Rattle.monitor_core.specs.Standing.{setting_of, Stands, Accepts}
+use Rattle.monitor_run.specs.declared.options.Options.{Options}
 use Rattle.monitor_run.specs.Outcome.{skip, refused, accepted, SaidHas}
-use Rattle.monitor_run.specs.Told.{Answered}
-use Rattle.monitor_run.specs.Replies.{AcceptsLine, IsRefusedFor, all_answers, told_by}
+use Rattle.monitor_run.specs.Task.{Task, task_of}
+use Rattle.monitor_run.specs.Told.{TellsAccepted}
+use Rattle.monitor_run.specs.Replies.{AcceptsLine, HasNamesOf, IsRefusal, IsRefusedFor, told_by}
 use Rattle.monitor_run.specs.Serving.{Asked}
 
-answered : (setting : Setting) (history : History) (line place : ℕ) (queries : List Tcq) (relations : List Relation) → AreAllAnswers setting.ontology queries history relations → Answered setting history line queries place (all_answers line (count_of history) place relations)
-answered setting history line place [] [] are = refl
-answered setting history line place [] (relation ∷ relations) are = absurd are
-answered setting history line place (query ∷ queries) [] are = absurd are
-answered setting history line place (query ∷ queries) (relation ∷ relations) are =
-    (relation.rows, all_answers line (count_of history) (place + 1) relations, are.0, answered setting history line (place + 1) queries relations are.1, refl)
-
 -- a snapshot was accepted
-pub took_snapshot : (old new : Monitored) (line : List ℕ) (facts : List Fact) (relations : List Relation) (reply : Reply) (count : ℕ) (history : History) → said (setting_of old).ontology form.Text line ≡ says facts → IsConsistentUnder (setting_of old).ontology facts → Accepts old new facts relations history → ((at : History) → Stands new at → count ≡ count_of at) → ((number : ℕ) → told_by number reply ≡ item.Accepted number count ∷ all_answers number count 0 relations) → AcceptsLine old new (text line) reply history
-took_snapshot old new line facts relations reply count history is consistent accepts counts tells =
-    let after : History = with_snapshot facts history in
-    let counted : count ≡ count_of after = counts after accepts.stands in
-    record {
-      after = after;
-      stands = accepts.stands;
-      tells = λ number. record {
-        outcome = accepted facts;
-        has = subst (λ (s : Said). SaidHas (setting_of old).ontology s (accepted facts)) (sym is) (refl, consistent);
-        replies = (
-          refl,
-          all_answers number (count_of after) 0 relations,
-          answered (setting_of old) after number 0 (setting_of old).queries relations accepts.answers,
-          tells number ∙ ap (λ n. item.Accepted number n ∷ all_answers number n 0 relations) counted,
-        );
-      };
-    }
-
--- a snapshot was refused for a clash
-pub clashed : (old : Monitored) (line : List ℕ) (facts : List Fact) (reply : Reply) (clash : ℕ) (history : History) → said (setting_of old).ontology form.Text line ≡ says facts → IsLeastClash (setting_of old).ontology facts clash → Stands old history → reply ≡ Refused (Contradiction clash) → AcceptsLine old old (text line) reply history
-clashed old line facts reply clash history is least stands same = record {
-  after = history;
+pub took_snapshot : (options : Options) (old new : Monitored) (line : List ℕ) (facts : List Fact) (number : ℕ) (told : Event) (history : History) → said (setting_of old).ontology options.form line ≡ says facts → IsConsistentUnder (setting_of old).ontology facts → setting_of new ≡ setting_of old → Stands new (with_snapshot facts history) → TellsAccepted (task_of options new) (with_snapshot facts history) number (told ∷ []) → AcceptsLine options old new (text line) number (Some told) history
+took_snapshot options old new line facts number told history is consistent same stands tells = record {
+  after = with_snapshot facts history;
   stands = stands;
-  tells = λ number. record {
-    outcome = refused (Contradiction clash);
-    has = subst (λ (s : Said). SaidHas (setting_of old).ontology s (refused (Contradiction clash))) (sym is) least;
-    replies = (ap (told_by number) same, refl);
+  tells = record {
+    outcome = accepted facts;
+    has = subst (λ (s : Said). SaidHas (setting_of old).ontology s (accepted facts)) (sym is) (refl, consistent);
+    replies = (refl, subst (λ (t : Task). TellsAccepted t (with_snapshot facts history) number (told ∷ [])) (ap (λ s. record { setting = s; options = options }) same) tells);
   };
 }
+
+pub all_accepted : {E : Type 0} (options : Options) (old new : Monitored) (facts : List Fact) (number : ℕ) (relations : List Relation) (result : Result Event E) → IsConsistentUnder (setting_of old).ontology facts → setting_of new ≡ setting_of old → ((history : History) → Stands old history → Accepts old new facts relations history) →
+    IfOk result (λ told. (after : History) → Stands new after → AreAllAnswers (setting_of new).ontology (setting_of new).queries after relations → TellsAccepted (task_of options new) after number (told ∷ [])) →
+    IfOk result (λ told. (history : History) (line : List ℕ) → Stands old history → said (setting_of old).ontology options.form line ≡ says facts → AcceptsLine options old new (text line) number (Some told) history)
+all_accepted options old new facts number relations (Ok told) consistent same accepts tells = λ history line stands is.
+    let taken = accepts history stands in
+    let answers : AreAllAnswers (setting_of new).ontology (setting_of new).queries (with_snapshot facts history) relations =
+    subst (λ (s : Setting). AreAllAnswers s.ontology s.queries (with_snapshot facts history) relations) (sym same) taken.answers in
+    took_snapshot options old new line facts number told history is consistent same taken.stands (tells (with_snapshot facts history) taken.stands answers)
+all_accepted options old new facts number relations (Err e) consistent same accepts tells = tells
+
+-- a snapshot was refused for a clash
+pub clashed : (options : Options) (old : Monitored) (line : List ℕ) (facts : List Fact) (number clash : ℕ) (history : History) → said (setting_of old).ontology options.form line ≡ says facts → IsLeastClash (setting_of old).ontology facts clash → Stands old history → AcceptsLine options old old (text line) number (Some (event.Refused number (Contradiction clash))) history
+clashed options old line facts number clash history is least stands = record {
+  after = history;
+  stands = stands;
+  tells = record {
+    outcome = refused (Contradiction clash);
+    has = subst (λ (s : Said). SaidHas (setting_of old).ontology s (refused (Contradiction clash))) (sym is) least;
+    replies = (refl, refl);
+  };
+}
+
+-- a snapshot was refused
+refused_for : (options : Options) (old new : Monitored) (line : List ℕ) (facts : List Fact) (number : ℕ) (why : AcceptFault) (told : Event) (history : History) → said (setting_of old).ontology options.form line ≡ says facts → ((clash : ℕ) → why ≡ fault.Contradiction clash → IsLeastClash (setting_of old).ontology facts clash) → new ≡ old → Stands old history → IsRefusal number why told → AcceptsLine options old new (text line) number (Some told) history
+refused_for options old new line facts number (fault.Contradiction clash) told history is least same stands refuses =
+    subst (λ (m : Monitored). AcceptsLine options old m (text line) number (Some told) history) (sym same)
+    (subst (λ (e : Event). AcceptsLine options old old (text line) number (Some e) history) (sym refuses) (clashed options old line facts number clash history is (least clash refl) stands))
+refused_for options old new line facts number fault.Memory told history is least same stands refuses = absurd refuses
+
+pub all_refused : {E : Type 0} (options : Options) (old new : Monitored) (facts : List Fact) (number : ℕ) (why : AcceptFault) (result : Result Event E) → ((clash : ℕ) → why ≡ fault.Contradiction clash → IsLeastClash (setting_of old).ontology facts clash) → new ≡ old → IfOk result (λ told. IsRefusal number why told) →
+    IfOk result (λ told. (history : History) (line : List ℕ) → Stands old history → said (setting_of old).ontology options.form line ≡ says facts → AcceptsLine options old new (text line) number (Some told) history)
+all_refused options old new facts number why (Ok told) least same refuses = λ history line stands is. refused_for options old new line facts number why told history is least same stands refuses
+all_refused options old new facts number why (Err e) least same refuses = refuses
 
 refused_has : (o : Declared) (s : Said) (cause : Cause) → IsRefusedFor s cause → SaidHas o s (refused cause)
 refused_has o nothing cause is = absurd is
@@ -69,32 +85,61 @@ refused_has o (is_refused c) cause is = ap refused is
 refused_has o (says facts) cause is = absurd is
 
 -- a text was refused
-pub refused_text : (old : Monitored) (line : List ℕ) (reply : Reply) (cause : Cause) (history : History) → IsRefusedFor (said (setting_of old).ontology form.Text line) cause → Stands old history → reply ≡ Refused cause → AcceptsLine old old (text line) reply history
-refused_text old line reply cause history is stands same = record {
+pub refused_text : (options : Options) (old : Monitored) (line : List ℕ) (number : ℕ) (cause : Cause) (history : History) → IsRefusedFor (said (setting_of old).ontology options.form line) cause → Stands old history → AcceptsLine options old old (text line) number (Some (event.Refused number cause)) history
+refused_text options old line number cause history is stands = record {
   after = history;
   stands = stands;
-  tells = λ number. record { outcome = refused cause; has = refused_has (setting_of old).ontology (said (setting_of old).ontology form.Text line) cause is; replies = (ap (told_by number) same, refl) };
+  tells = record { outcome = refused cause; has = refused_has (setting_of old).ontology (said (setting_of old).ontology options.form line) cause is; replies = (refl, refl) };
 }
 
 -- a text says nothing
-pub skipped_text : (old : Monitored) (line : List ℕ) (reply : Reply) (history : History) → said (setting_of old).ontology form.Text line ≡ nothing → Stands old history → reply ≡ Skip → AcceptsLine old old (text line) reply history
-skipped_text old line reply history is stands same = record {
+pub skipped_text : (options : Options) (old : Monitored) (line : List ℕ) (number : ℕ) (history : History) → said (setting_of old).ontology options.form line ≡ nothing → Stands old history → AcceptsLine options old old (text line) number None history
+skipped_text options old line number history is stands = record {
   after = history;
   stands = stands;
-  tells = λ number. record { outcome = skip; has = subst (λ (s : Said). SaidHas (setting_of old).ontology s skip) (sym is) refl; replies = (ap (told_by number) same, refl) };
+  tells = record { outcome = skip; has = subst (λ (s : Said). SaidHas (setting_of old).ontology s skip) (sym is) refl; replies = (refl, refl) };
 }
 
 -- one line is asked
-pub asked_line : (old new : Monitored) (line : StreamLine) (reply : Reply) (history : History) (number : ℕ) → AcceptsLine old new line reply history → Asked old new (line ∷ []) number history (told_by number reply)
-asked_line old new line reply history number accepts = record {
+pub asked_line : (options : Options) (old new : Monitored) (line : StreamLine) (told : Option Event) (history : History) (number : ℕ) → AcceptsLine options old new line number told history → Asked options old new (line ∷ []) number history (told_by told)
+asked_line options old new line told history number accepts = record {
   after = accepts.after;
   stands = accepts.stands;
-  tells = (told_by number reply, [], accepts.after, accepts.tells number, (refl, refl), sym (append-nil (told_by number reply)));
+  tells = (told_by told, [], accepts.after, accepts.tells, (refl, refl), sym (append-nil (told_by told)));
 }
 
-pub asked_long : (old : Monitored) (reply : Reply) (history : History) (number : ℕ) → Stands old history → reply ≡ Refused TooLong → Asked old old (too_long ∷ []) number history (told_by number reply)
-asked_long old reply history number stands same = record {
+pub asked_long : (options : Options) (old : Monitored) (history : History) (number : ℕ) → Stands old history → Asked options old old (too_long ∷ []) number history (event.Refused number TooLong ∷ [])
+asked_long options old history number stands = record {
   after = history;
   stands = stands;
-  tells = (told_by number reply, [], history, record { outcome = refused TooLong; has = refl; replies = (ap (told_by number) same, refl) }, (refl, refl), sym (append-nil (told_by number reply)));
+  tells = (event.Refused number TooLong ∷ [], [], history, record { outcome = refused TooLong; has = refl; replies = (refl, refl) }, (refl, refl), refl);
 }
+
+all_named : (ontology : Declared) (queries : List Tcq) (relations : List Relation) → AreRowsOf ontology queries relations → All (λ (relation : Relation). AreNamed ontology relation.rows) relations
+all_named ontology [] [] are = All-nil (λ (relation : Relation). AreNamed ontology relation.rows)
+all_named ontology [] (relation ∷ relations) are = absurd are
+all_named ontology (query ∷ queries) [] are = absurd are
+all_named ontology (query ∷ queries) (relation ∷ relations) are =
+    All-cons (λ (r : Relation). AreNamed ontology r.rows) relation relations
+    (All-weaker (IsRow (length ontology.individuals) query.vars) (IsNamed ontology) (λ row is. is.1) relation.rows are.1)
+    (all_named ontology queries relations are.2)
+
+same_length : (ontology : Declared) (queries : List Tcq) (relations : List Relation) → AreRowsOf ontology queries relations → length relations ≡ length queries
+same_length ontology [] [] are = refl
+same_length ontology [] (relation ∷ relations) are = absurd are
+same_length ontology (query ∷ queries) [] are = absurd are
+same_length ontology (query ∷ queries) (relation ∷ relations) are = ap suc (same_length ontology queries relations are.2)
+
+-- the answers of queries are of individuals that have names
+pub answered_all : (ontology : Declared) (queries : List Tcq) (kept : Option (List ℕ)) (relations told : List Relation) → told ≡ relations → AreRowsOf ontology queries relations → HasSizes queries kept → AreAnswered ontology queries kept told
+answered_all ontology queries kept relations told same are sizes =
+    subst (AreAnswered ontology queries kept) (sym same) (record { one_each = same_length ontology queries relations are; sizes = sizes; named = all_named ontology queries relations are })
+
+-- a refusal for a cause that is spelled
+pub refused_names : (ontology : Declared) (queries : List Tcq) (number : ℕ) (cause : Cause) (told : Event) → told ≡ event.Refused number cause → AreSpelled queries → IsSpelledCause cause → EventHasNames ontology queries told
+refused_names ontology queries number cause told same spelled is =
+    subst (EventHasNames ontology queries) (sym same) (record { answers = tt; queries_spelled = spelled; cause_spelled = is })
+
+pub newest_names : (setting : Setting) (last event : Option Event) → HasNamesOf setting last → HasNamesOf setting event → HasNamesOf setting (newest last event)
+newest_names setting last None one other = one
+newest_names setting last (Some event) one other = other

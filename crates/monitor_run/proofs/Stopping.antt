@@ -12,32 +12,33 @@ use Rattle.edge_io.specs.Reading.{given_by, outcome_of_line}
 use Rattle.edge_io.proofs.Readings.{Reads-none_before}
 use Rattle.edge_io.proofs.KnownLemmas.{Takes-none, Gains-none, Gains-trans}
 use Rattle.monitor_core.specs.Keeping.{Monitored}
-use Rattle.monitor_core.specs.Setting.{Setting}
-use Rattle.report_text.specs.declared.item.Item.{Item}
-use Rattle.report_text.specs.declared.item.Item.TheVariants as item
+use Rattle.monitor_run.specs.declared.options.Options.{Options}
+use Rattle.monitor_run.specs.Task.{Task, task_of}
+use Rattle.report_text.specs.declared.event.Event.{Event}
+use Rattle.report_text.specs.declared.event.Event.TheVariants as event
 use Rattle.monitor_core.specs.Standing.{count_of}
 use Rattle.monitor_run.specs.Told.{Told}
-use Rattle.monitor_core.specs.Standing.{setting_of, Stands}
+use Rattle.monitor_core.specs.Standing.{Stands}
 use Rattle.monitor_run.specs.declared.ending.Ending.{Ending}
 use Rattle.monitor_run.specs.declared.ending.Ending.TheVariants.{Done, Usage, BadOntology, TooManyRewritings, BadQueries, ReadFault, WriteFault, Memory, StreamLimit}
 use Rattle.monitor_run.specs.Ends.{ending_of, IsFinished, Finishes}
-use Rattle.monitor_run.specs.Report.{text_of, bytes_of_item, end_item, Report, Part}
+use Rattle.monitor_run.specs.Report.{text_of, bytes_of_event, end_event, Report, Part}
 use Rattle.monitor_run.specs.Watching.{BeginsReport, IsCutShort, Wrote, Watched}
 use Rattle.monitor_run.specs.Writing.{Flushes}
 use Rattle.monitor_run.specs.Serving.{Took, Serves}
-use Rattle.monitor_run.proofs.Serving.{took_more}
+use Rattle.monitor_run.proofs.Serving.{took_more, same_task}
 
 -- nothing was taken or written
-pub nothing_done : (setting : Setting) (history : History) (left got : Option (List ℕ)) → Watched Memory setting history left left got got
-nothing_done setting history left got = record {
+pub nothing_done : (task : Task) (history : History) (left got : Option (List ℕ)) → Watched Memory task history left left got got
+nothing_done task history left got = record {
   taken = [];
   takes = Takes-none left;
   wrote = [];
   gains = Gains-none got;
-  writes = inl (record { front = []; rest = []; split = refl; told = []; after = history; tells = (refl, refl); begins = (text_of setting [], refl) });
+  writes = inl (record { front = []; rest = []; split = refl; told = []; after = history; tells = (refl, refl); begins = (text_of task [], refl) });
 }
 
-ended_lines : (lb ln : Option (List ℕ)) (reading : Reading) (given : List StreamLine) (took : Took lb ln reading given) → reading.is_ended ≡ true → items took.taken ≡ given
+pub ended_lines : (lb ln : Option (List ℕ)) (reading : Reading) (given : List StreamLine) (took : Took lb ln reading given) → reading.is_ended ≡ true → items took.taken ≡ given
 ended_lines lb ln reading given took ended = (subst (λ e. Gives e took.taken given reading.pending) ended took.lines).0
 
 whole_lines_of : (lb ln : Option (List ℕ)) (reading : Reading) (given : List StreamLine) (took : Took lb ln reading given) → reading.is_ended ≡ false → whole_items took.taken ≡ given ++ whole_items reading.pending
@@ -46,9 +47,9 @@ whole_lines_of lb ln reading given took going_on =
     rw (append-nil took.taken, append-nil reading.pending) at (lines.whole [])
 
 -- some first lines are told, and a beginning of that was written
-pub cut_short : (setting : Setting) (history after : History) (lb ln : Option (List ℕ)) (reading : Reading) (given more : List StreamLine) (told : List Item) (wrote : List ℕ) (took : Took lb ln reading (given ++ more)) → Told setting given 1 history told after → IsFront wrote (text_of setting told) → IsCutShort setting history (IsAtEnd ln) took.taken wrote
-cut_short setting history after lb ln reading given more told wrote took tells begins =
-    elim reading.is_ended as (λ e. reading.is_ended ≡ e → IsCutShort setting history (IsAtEnd ln) took.taken wrote) [
+pub cut_short : (task : Task) (history after : History) (lb ln : Option (List ℕ)) (reading : Reading) (given more : List StreamLine) (told : List Event) (wrote : List ℕ) (took : Took lb ln reading (given ++ more)) → Told task given 1 history told after → IsFront wrote (text_of task told) → IsCutShort task history (IsAtEnd ln) took.taken wrote
+cut_short task history after lb ln reading given more told wrote took tells begins =
+    elim reading.is_ended as (λ e. reading.is_ended ≡ e → IsCutShort task history (IsAtEnd ln) took.taken wrote) [
       | true ↦ λ ended. inr (
         took.end ended,
         inl (record { front = given; rest = more; split = ended_lines lb ln reading (given ++ more) took ended; told = told; after = after; tells = tells; begins = begins }),
@@ -64,31 +65,31 @@ cut_short setting history after lb ln reading given more told wrote took tells b
       })
     ] refl
 
-module _ (setting : Setting) (history : History) (lb ln gb gn : Option (List ℕ)) (reading : Reading) (monitor : Monitored) (gathered : List ℕ) (line refused : ℕ) (so_far : Serves setting history lb ln gb gn reading monitor gathered line refused) where
-  same_took : Took lb ln reading (so_far.given ++ [])
-  same_took = subst (λ l. Took lb ln reading l) (sym (append-nil so_far.given)) so_far.took
+module _ (task : Task) (history : History) (lb ln gb gn : Option (List ℕ)) (reading : Reading) (monitor : Monitored) (gathered : List ℕ) (line refused : ℕ) (so_far : Serves task history lb ln gb gn reading monitor gathered line refused) where
+  same_took : Took lb ln reading (so_far.follows.given ++ [])
+  same_took = subst (λ l. Took lb ln reading l) (sym (append-nil so_far.follows.given)) so_far.follows.took
 
   -- a write of what was gathered failed
-  pub flush_failed : {T E : Type 0} {e : E} (gn' : Option (List ℕ)) (gathered' : List ℕ) (is_emptied : Bool) → Flushes {T = T} {E = E} is_emptied gn gn' gathered gathered' (Err e) → Watched WriteFault setting history lb ln gb gn'
+  pub flush_failed : {T E : Type 0} {e : E} (gn' : Option (List ℕ)) (gathered' : List ℕ) (is_emptied : Bool) → Flushes {T = T} {E = E} is_emptied gn gn' gathered gathered' (Err e) → Watched WriteFault task history lb ln gb gn'
   flush_failed gn' gathered' is_emptied flushes = record {
     taken = same_took.taken;
     takes = same_took.takes;
     wrote = so_far.wrote ++ flushes.wrote;
     gains = Gains-trans gb gn gn' so_far.wrote flushes.wrote so_far.gains flushes.gains;
-    writes = cut_short setting history so_far.after lb ln reading so_far.given [] so_far.told (so_far.wrote ++ flushes.wrote) same_took so_far.tells
+    writes = cut_short task history so_far.follows.after lb ln reading so_far.follows.given [] so_far.told (so_far.wrote ++ flushes.wrote) same_took so_far.follows.tells
         (flushes.front.0, sym so_far.gathers ∙ (ap (λ l. so_far.wrote ++ l) flushes.front.1 ∙ sym (append_assoc so_far.wrote flushes.wrote flushes.front.0)));
   }
 
   -- the reader gave more, and there was no memory to tell it
-  pub memory_failed : (ln' : Option (List ℕ)) (new : Reading) (more : List StreamLine) → Reads reading new ln ln' more → Watched Memory setting history lb ln' gb gn
+  pub memory_failed : (ln' : Option (List ℕ)) (new : Reading) (more : List StreamLine) → Reads reading new ln ln' more → Watched Memory task history lb ln' gb gn
   memory_failed ln' new more reads =
-      let took = took_more lb ln ln' reading new so_far.given more so_far.took reads in
+      let took = took_more lb ln ln' reading new so_far.follows.given more so_far.follows.took reads in
       record {
         taken = took.taken;
         takes = took.takes;
         wrote = so_far.wrote;
         gains = so_far.gains;
-        writes = cut_short setting history so_far.after lb ln' new so_far.given more so_far.told so_far.wrote took so_far.tells (gathered, sym so_far.gathers);
+        writes = cut_short task history so_far.follows.after lb ln' new so_far.follows.given more so_far.told so_far.wrote took so_far.follows.tells (gathered, sym so_far.gathers);
       }
 
   none_left : (ln' : Option (List ℕ)) (new : Reading) → Reads reading new ln ln' [] → IsDry new → whole_items reading.pending ≡ []
@@ -103,45 +104,45 @@ module _ (setting : Setting) (history : History) (lb ln gb gn : Option (List ℕ
   was_waiting waits ends.ReadFault ln' new some did = surely waits some (none_left ln' new did.reads did.stops.0)
   was_waiting waits ends.StreamLimit ln' new some did = surely waits some (none_left ln' new did.reads did.stops.dry)
 
-  part_of : (ln' : Option (List ℕ)) (new : Reading) (took : Took lb ln' new (so_far.given ++ [])) → gathered ≡ [] → IsDry new → Part setting history took.taken so_far.wrote
+  part_of : (ln' : Option (List ℕ)) (new : Reading) (took : Took lb ln' new (so_far.follows.given ++ [])) → gathered ≡ [] → IsDry new → Part task history took.taken so_far.wrote
   part_of ln' new took empty dry = record {
     told = so_far.told;
-    after = so_far.after;
-    tells = subst (λ l. Told setting l 1 history so_far.told so_far.after)
-        (sym (whole_lines_of lb ln' new (so_far.given ++ []) took dry.going_on ∙ (ap (λ l. (so_far.given ++ []) ++ l) dry.whole ∙ (append-nil (so_far.given ++ []) ∙ append-nil so_far.given)))) so_far.tells;
+    after = so_far.follows.after;
+    tells = subst (λ l. Told task l 1 history so_far.told so_far.follows.after)
+        (sym (whole_lines_of lb ln' new (so_far.follows.given ++ []) took dry.going_on ∙ (ap (λ l. (so_far.follows.given ++ []) ++ l) dry.whole ∙ (append-nil (so_far.follows.given ++ []) ∙ append-nil so_far.follows.given)))) so_far.follows.tells;
     is = sym (append-nil so_far.wrote) ∙ (ap (λ l. so_far.wrote ++ l) (sym empty) ∙ so_far.gathers);
   }
 
   -- the reader gave no line
-  pub stops : (end : ReadEnd) (ln' : Option (List ℕ)) (new : Reading) → gathered ≡ [] → NextDid reading new ln ln' (Err end) → Watched (ending_of end) setting history lb ln' gb gn
+  pub stops : (end : ReadEnd) (ln' : Option (List ℕ)) (new : Reading) → gathered ≡ [] → NextDid reading new ln ln' (Err end) → Watched (ending_of end) task history lb ln' gb gn
   stops ends.ReadFault ln' new empty did =
-      let took = took_more lb ln ln' reading new so_far.given [] so_far.took did.reads in
+      let took = took_more lb ln ln' reading new so_far.follows.given [] so_far.follows.took did.reads in
       record { taken = took.taken; takes = took.takes; wrote = so_far.wrote; gains = so_far.gains; writes = part_of ln' new took empty did.stops.0 }
   stops ends.StreamLimit ln' new empty did =
-      let took : Took lb ln' new (so_far.given ++ []) = took_more lb ln ln' reading new so_far.given [] so_far.took did.reads in
+      let took : Took lb ln' new (so_far.follows.given ++ []) = took_more lb ln ln' reading new so_far.follows.given [] so_far.follows.took did.reads in
       record { taken = took.taken; takes = took.takes; wrote = so_far.wrote; gains = so_far.gains; writes = (omega (arith, took.size, took.limit, did.stops.past), part_of ln' new took empty did.stops.dry) }
 
   abbrev last : List ℕ
-  last = bytes_of_item setting (item.End (count_of so_far.after) refused)
+  last = bytes_of_event task (event.End (count_of so_far.follows.after) refused)
 
-  last_bytes : last ≡ bytes_of_item setting (end_item so_far.after so_far.told)
-  last_bytes = ap (λ n. bytes_of_item setting (item.End (count_of so_far.after) n)) so_far.refuses
+  last_bytes : last ≡ bytes_of_event task (end_event so_far.follows.after so_far.told)
+  last_bytes = ap (λ n. bytes_of_event task (event.End (count_of so_far.follows.after) n)) so_far.follows.refuses
 
   -- the whole report is what was written, what was gathered and the last line
-  whole_report : (ln' : Option (List ℕ)) (new : Reading) (took : Took lb ln' new (so_far.given ++ [])) → new.is_ended ≡ true → Report setting history took.taken (so_far.wrote ++ (gathered ++ last))
+  whole_report : (ln' : Option (List ℕ)) (new : Reading) (took : Took lb ln' new (so_far.follows.given ++ [])) → new.is_ended ≡ true → Report task history took.taken (so_far.wrote ++ (gathered ++ last))
   whole_report ln' new took ended = record {
     told = so_far.told;
-    after = so_far.after;
-    tells = subst (λ l. Told setting l 1 history so_far.told so_far.after) (sym (ended_lines lb ln' new (so_far.given ++ []) took ended ∙ append-nil so_far.given)) so_far.tells;
+    after = so_far.follows.after;
+    tells = subst (λ l. Told task l 1 history so_far.told so_far.follows.after) (sym (ended_lines lb ln' new (so_far.follows.given ++ []) took ended ∙ append-nil so_far.follows.given)) so_far.follows.tells;
     is = sym (append_assoc so_far.wrote gathered last)
-        ∙ (ap (λ l. l ++ last) so_far.gathers ∙ ap (λ l. text_of setting so_far.told ++ l) last_bytes);
+        ∙ (ap (λ l. l ++ last) so_far.gathers ∙ ap (λ l. text_of task so_far.told ++ l) last_bytes);
   }
 
-  begins_by : (taken wrote end : List ℕ) → Report setting history taken (so_far.wrote ++ end) → IsFront wrote end → BeginsReport setting history taken (so_far.wrote ++ wrote)
+  begins_by : (taken wrote end : List ℕ) → Report task history taken (so_far.wrote ++ end) → IsFront wrote end → BeginsReport task history taken (so_far.wrote ++ wrote)
   begins_by taken wrote end report is = (so_far.wrote ++ end, report, (is.0, ap (λ l. so_far.wrote ++ l) is.1 ∙ sym (append_assoc so_far.wrote wrote is.0)))
 
   -- how a run ends behind what was written
-  ends_by : (ending : Ending) (at_end : Type 0) (taken wrote end : List ℕ) → at_end → length taken ≤ 2 ^ 40 → Report setting history taken (so_far.wrote ++ end) → IsFinished ending wrote end → Wrote ending setting history at_end taken (so_far.wrote ++ wrote)
+  ends_by : (ending : Ending) (at_end : Type 0) (taken wrote end : List ℕ) → at_end → length taken ≤ 2 ^ 40 → Report task history taken (so_far.wrote ++ end) → IsFinished ending wrote end → Wrote ending task history at_end taken (so_far.wrote ++ wrote)
   ends_by Done at_end taken wrote end ended within report is = (ended, within, record { told = report.told; after = report.after; tells = report.tells; is = ap (λ l. so_far.wrote ++ l) is ∙ report.is })
   ends_by Usage at_end taken wrote end ended within report is = is
   ends_by (BadOntology line kind) at_end taken wrote end ended within report is = is
@@ -153,10 +154,11 @@ module _ (setting : Setting) (history : History) (lb ln gb gn : Option (List ℕ
   ends_by StreamLimit at_end taken wrote end ended within report is = absurd is
 
   -- the input ended
-  pub finishes : (ending : Ending) (ln' gn' : Option (List ℕ)) (new : Reading) → NextDid reading new ln ln' (Ok End) → ((at : History) → Stands monitor at → Finishes gn gn' (gathered ++ bytes_of_item (setting_of monitor) (item.End (count_of at) refused)) ending) → Watched ending setting history lb ln' gb gn'
-  finishes ending ln' gn' new did finish =
-      let finished : Finishes gn gn' (gathered ++ last) ending = finish so_far.after so_far.stands in
-      let took : Took lb ln' new (so_far.given ++ []) = took_more lb ln ln' reading new so_far.given [] so_far.took did.reads in
+  pub finishes : (options : Options) (ending : Ending) (ln' gn' : Option (List ℕ)) (new : Reading) → options ≡ task.options → NextDid reading new ln ln' (Ok End) → ((at : History) → Stands monitor at → Finishes gn gn' (gathered ++ bytes_of_event (task_of options monitor) (event.End (count_of at) refused)) ending) → Watched ending task history lb ln' gb gn'
+  finishes options ending ln' gn' new chosen did finish =
+      let finished : Finishes gn gn' (gathered ++ last) ending =
+      subst (λ (t : Task). Finishes gn gn' (gathered ++ bytes_of_event t (event.End (count_of so_far.follows.after) refused)) ending) (same_task options task monitor chosen so_far.follows.same) (finish so_far.follows.after so_far.follows.stands) in
+      let took : Took lb ln' new (so_far.follows.given ++ []) = took_more lb ln ln' reading new so_far.follows.given [] so_far.follows.took did.reads in
       record {
         taken = took.taken;
         takes = took.takes;

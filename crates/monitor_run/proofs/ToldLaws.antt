@@ -1,5 +1,5 @@
 -- The laws of what is told of lines.
-use Rattle.std.proofs.Common.{◌≡◌, ℕ, zero, suc, ◌+◌, ◌<◌, List, [], ◌∷◌, ◌++◌, length, Some, refl, sym, ◌∙◌, ap, subst, arith, append_assoc}
+use Rattle.std.proofs.Common.{◌≡◌, ℕ, zero, suc, ◌+◌, ◌<◌, Bool, true, false, Option, None, List, [], ◌∷◌, ◌++◌, length, Some, refl, sym, ◌∙◌, ap, subst, arith, append_assoc}
 use Rattle.std.specs.Prelude.{slice_get}
 use Rattle.std.specs.List.{Contains}
 use Rattle.dl_syntax.specs.declared.facts.Fact.{Fact}
@@ -11,18 +11,25 @@ use Rattle.tcq_syntax.specs.Histories.{History}
 use Rattle.tcq_syntax.specs.Tcq.{Tcq}
 use Rattle.tcq_syntax.proofs.OneList.{one_answers}
 use Rattle.edge_io.specs.Lines.{Item as StreamLine, text, too_long}
-use Rattle.snapshot_reader.specs.declared.Form.TheVariants.{Text}
 use Rattle.snapshot_reader.specs.Said.{Said, nothing, says, said}
 use Rattle.snapshot_reader.specs.Said.{refused as is_refused}
 use Rattle.report_text.specs.declared.item.Cause.{Cause}
 use Rattle.report_text.specs.declared.item.Cause.TheVariants.{TooLong, Malformed, Unknown, WrongKind, Undeclared, TooManyFacts, Contradiction}
-use Rattle.report_text.specs.declared.item.Item.{Item}
-use Rattle.report_text.specs.declared.item.Item.TheVariants.{Accepted}
+use Rattle.report_text.specs.declared.event.Event.{Event}
+use Rattle.report_text.specs.declared.event.Event.TheVariants.{Accepted}
 use Rattle.consistency.specs.Least.{IsLeastClash, IsConsistentUnder}
+use Rattle.monitor_core.specs.Answering.{AreRowsOf, AreAllAnswers}
 use Rattle.monitor_core.specs.Setting.{Setting}
+use Rattle.tcq_syntax.specs.Kept.{IsKeptSize}
+use Rattle.dl_syntax.specs.Rows.{Relation}
+use Rattle.dl_syntax.specs.declared.ontology.Inclusion.{Inclusion}
+use Rattle.std.specs.List.Sorted.{IsPermutation}
+use Rattle.std.proofs.lemmas.List.Sorted.{sum_by-IsPermutation}
 use Rattle.monitor_core.specs.Standing.{count_of}
 use Rattle.monitor_run.specs.Outcome.{Outcome, skip, refused, accepted, SnapshotHas, SaidHas}
-use Rattle.monitor_run.specs.Told.{answers, Answered, Replies, TellsLine, Told}
+use Rattle.monitor_run.specs.Task.{Task}
+use Rattle.monitor_run.specs.Told.{AreSizes, AreAskedSizes, TellsAccepted, Replies, TellsLine, Told}
+use Rattle.monitor_run.proofs.Arrangements.{arranged}
 use Rattle.monitor_run.specs.ReportLaws.{OneOutcome, OneTold, ToldJoined, Parts, ToldParts}
 
 listed_contained : (xs : List Clash) (place : ℕ) (c : Clash) → slice_get xs place ≡ Some c → Contains xs c
@@ -74,69 +81,102 @@ one_said ontology (is_refused cause) one other p q = p ∙ sym q
 one_said ontology (says snapshot) one other p q = one_snapshot ontology snapshot one other p q
 
 pub one_outcome : OneOutcome
-one_outcome ontology too_long one other p q = p ∙ sym q
-one_outcome ontology (text line) one other p q = one_said ontology (said ontology Text line) one other p q
+one_outcome ontology form too_long one other p q = p ∙ sym q
+one_outcome ontology form (text line) one other p q = one_said ontology (said ontology form line) one other p q
 
-one_answered : (setting : Setting) (history : History) (line : ℕ) (queries : List Tcq) (place : ℕ) (one other : List Item) → Answered setting history line queries place one → Answered setting history line queries place other → one ≡ other
-one_answered setting history line [] place one other p q = p ∙ sym q
-one_answered setting history line (query ∷ queries) place one other p q =
-    let rows : p.0 ≡ q.0 = one_answers setting.ontology.inclusions (length setting.ontology.individuals) query history p.0 q.0 p.2 q.2 in
-    let rest : p.1 ≡ q.1 = one_answered setting history line queries (place + 1) p.1 q.1 p.3 q.3 in
-    p.4
-    ∙ (ap (λ (r : List (List IndId)). answers line (count_of history) place r ++ p.1) rows
-    ∙ (ap (λ (l : List Item). answers line (count_of history) place q.0 ++ l) rest ∙ sym q.4))
+same_relation : (one other : Relation) → one.arity ≡ other.arity → one.rows ≡ other.rows → one ≡ other
+same_relation one other arity rows = ap (λ (k : ℕ). record { arity = k; rows = one.rows }) arity ∙ ap (λ (r : List (List IndId)). record { arity = other.arity; rows = r }) rows
 
-one_replies : (setting : Setting) (history : History) (line : ℕ) (outcome : Outcome) (one other : List Item) (after later : History) → Replies setting history line outcome one after → Replies setting history line outcome other later → (one ≡ other) × (after ≡ later)
-one_replies setting history line skip one other after later p q = (p.0 ∙ sym q.0, p.1 ∙ sym q.1)
-one_replies setting history line (refused cause) one other after later p q = (p.0 ∙ sym q.0, p.1 ∙ sym q.1)
-one_replies setting history line (accepted snapshot) one other after later p q =
+one_relations : (ontology : Declared) (history : History) (queries : List Tcq) (one other : List Relation) → AreRowsOf ontology queries one → AreAllAnswers ontology queries history one → AreRowsOf ontology queries other → AreAllAnswers ontology queries history other → one ≡ other
+one_relations ontology history [] [] [] p q r s = refl
+one_relations ontology history [] (x ∷ xs) other p q r s = absurd p
+one_relations ontology history [] [] (y ∷ ys) p q r s = absurd r
+one_relations ontology history (query ∷ queries) [] other p q r s = absurd p
+one_relations ontology history (query ∷ queries) (x ∷ xs) [] p q r s = absurd r
+one_relations ontology history (query ∷ queries) (x ∷ xs) (y ∷ ys) p q r s =
+    let rows : x.rows ≡ y.rows = one_answers ontology.inclusions (length ontology.individuals) query history x.rows y.rows q.0 s.0 in
+    let first : x ≡ y = same_relation x y (p.0 ∙ sym r.0) rows in
+    let later : xs ≡ ys = one_relations ontology history queries xs ys p.2 q.1 r.2 s.1 in
+    ap (λ (z : Relation). z ∷ xs) first ∙ ap (λ (zs : List Relation). y ∷ zs) later
+
+one_size : (inclusions : List Inclusion) (count : ℕ) (history : History) (queries : List Tcq) (one other : ℕ) → IsKeptSize inclusions count history queries one → IsKeptSize inclusions count history queries other → one ≡ other
+one_size inclusions count history queries one other (xs, p, is) (ys, q, same) =
+    let arrangement : IsPermutation xs ys = arranged xs ys p.distinct q.distinct (λ sets there. (q.member sets).1 ((p.member sets).0 there)) (λ sets there. (p.member sets).1 ((q.member sets).0 there)) in
+    is ∙ (sym (sum_by-IsPermutation length xs ys arrangement) ∙ sym same)
+
+one_sizes : (setting : Setting) (history : History) (queries : List Tcq) (one other : List ℕ) → AreSizes setting history queries one → AreSizes setting history queries other → one ≡ other
+one_sizes setting history [] [] [] p q = refl
+one_sizes setting history [] (x ∷ xs) other p q = absurd p
+one_sizes setting history [] [] (y ∷ ys) p q = absurd q
+one_sizes setting history (query ∷ queries) [] other p q = absurd p
+one_sizes setting history (query ∷ queries) (x ∷ xs) [] p q = absurd q
+one_sizes setting history (query ∷ queries) (x ∷ xs) (y ∷ ys) p q =
+    let first : x ≡ y = one_size setting.ontology.inclusions (length setting.ontology.individuals) history (query ∷ []) x y p.0 q.0 in
+    let later : xs ≡ ys = one_sizes setting history queries xs ys p.1 q.1 in
+    ap (λ (z : ℕ). z ∷ xs) first ∙ ap (λ (zs : List ℕ). y ∷ zs) later
+
+not_both : (asked : Bool) → asked ≡ true → asked ≡ false → ⊥
+not_both asked on off = let never : true ≡ false = sym on ∙ off in cc
+
+one_asked : (asked : Bool) (setting : Setting) (history : History) (one other : Option (List ℕ)) → AreAskedSizes asked setting history one → AreAskedSizes asked setting history other → one ≡ other
+one_asked asked setting history None None p q = refl
+one_asked asked setting history None (Some ys) p q = absurd (not_both asked q.0 p)
+one_asked asked setting history (Some xs) None p q = absurd (not_both asked p.0 q)
+one_asked asked setting history (Some xs) (Some ys) p q = ap (λ (zs : List ℕ). Some zs) (one_sizes setting history setting.queries xs ys p.1 q.1)
+
+one_accepted : (task : Task) (after : History) (line : ℕ) (one other : List Event) → TellsAccepted task after line one → TellsAccepted task after line other → one ≡ other
+one_accepted task after line one other p q =
+    let relations : p.relations ≡ q.relations = one_relations task.setting.ontology after task.setting.queries p.relations q.relations p.answered.shaped p.answered.exact q.answered.shaped q.answered.exact in
+    let kept : p.kept ≡ q.kept = one_asked task.options.sizes task.setting after p.kept q.kept p.sizes q.sizes in
+    p.is
+    ∙ (ap (λ (r : List Relation). Accepted line (count_of after) r p.kept ∷ []) relations
+    ∙ (ap (λ (k : Option (List ℕ)). Accepted line (count_of after) q.relations k ∷ []) kept ∙ sym q.is))
+
+one_replies : (task : Task) (history : History) (line : ℕ) (outcome : Outcome) (one other : List Event) (after later : History) → Replies task history line outcome one after → Replies task history line outcome other later → (one ≡ other) × (after ≡ later)
+one_replies task history line skip one other after later p q = (p.0 ∙ sym q.0, p.1 ∙ sym q.1)
+one_replies task history line (refused cause) one other after later p q = (p.0 ∙ sym q.0, p.1 ∙ sym q.1)
+one_replies task history line (accepted snapshot) one other after later p q =
     let same : after ≡ later = p.0 ∙ sym q.0 in
-    let there : Answered setting later line setting.queries 0 p.1 = subst (λ (h : History). Answered setting h line setting.queries 0 p.1) same p.2 in
-    let rest : p.1 ≡ q.1 = one_answered setting later line setting.queries 0 p.1 q.1 there q.2 in (
-      p.3
-          ∙ (ap (λ (h : History). Accepted line (count_of h) ∷ p.1) same
-          ∙ (ap (λ (l : List Item). Accepted line (count_of later) ∷ l) rest ∙ sym q.3)),
-      same,
-    )
+    (one_accepted task later line one other (subst (λ (h : History). TellsAccepted task h line one) same p.1) q.1, same)
 
-one_line : (setting : Setting) (history : History) (line : ℕ) (item : StreamLine) (one other : List Item) (after later : History) → TellsLine setting history line item one after → TellsLine setting history line item other later → (one ≡ other) × (after ≡ later)
-one_line setting history line item one other after later p q =
-    let same : p.outcome ≡ q.outcome = one_outcome setting.ontology item p.outcome q.outcome p.has q.has in
-    one_replies setting history line q.outcome one other after later (subst (λ (o : Outcome). Replies setting history line o one after) same p.replies) q.replies
+one_line : (task : Task) (history : History) (line : ℕ) (item : StreamLine) (one other : List Event) (after later : History) → TellsLine task history line item one after → TellsLine task history line item other later → (one ≡ other) × (after ≡ later)
+one_line task history line item one other after later p q =
+    let same : p.outcome ≡ q.outcome = one_outcome task.setting.ontology task.options.form item p.outcome q.outcome p.has q.has in
+    one_replies task history line q.outcome one other after later (subst (λ (o : Outcome). Replies task history line o one after) same p.replies) q.replies
 
 pub one_told : OneTold
-one_told setting [] line history one other after later p q = (p.0 ∙ sym q.0, p.1 ∙ sym q.1)
-one_told setting (item ∷ items) line history one other after later p q =
-    let first : (p.0 ≡ q.0) × (p.2 ≡ q.2) = one_line setting history line item p.0 q.0 p.2 q.2 p.3 q.3 in
-    let there : Told setting items (line + 1) q.2 p.1 after = subst (λ (h : History). Told setting items (line + 1) h p.1 after) first.1 p.4 in
-    let rest : (p.1 ≡ q.1) × (after ≡ later) = one_told setting items (line + 1) q.2 p.1 q.1 after later there q.4 in (
-      p.5 ∙ (ap (λ (l : List Item). l ++ p.1) first.0 ∙ (ap (λ (l : List Item). q.0 ++ l) rest.0 ∙ sym q.5)),
+one_told task [] line history one other after later p q = (p.0 ∙ sym q.0, p.1 ∙ sym q.1)
+one_told task (item ∷ items) line history one other after later p q =
+    let first : (p.0 ≡ q.0) × (p.2 ≡ q.2) = one_line task history line item p.0 q.0 p.2 q.2 p.3 q.3 in
+    let there : Told task items (line + 1) q.2 p.1 after = subst (λ (h : History). Told task items (line + 1) h p.1 after) first.1 p.4 in
+    let rest : (p.1 ≡ q.1) × (after ≡ later) = one_told task items (line + 1) q.2 p.1 q.1 after later there q.4 in (
+      p.5 ∙ (ap (λ (l : List Event). l ++ p.1) first.0 ∙ (ap (λ (l : List Event). q.0 ++ l) rest.0 ∙ sym q.5)),
       rest.1,
     )
 
 pub told_joined : ToldJoined
-told_joined setting [] then line history next after told rest p q =
+told_joined task [] then line history next after told rest p q =
     let number : line + 0 ≡ line = omega arith in
-    let there : Told setting then line history rest after = subst (λ n. Told setting then n history rest after) number (subst (λ h. Told setting then (line + 0) h rest after) p.1 q) in
-    subst (λ l. Told setting then line history (l ++ rest) after) (sym p.0) there
-told_joined setting (item ∷ items) then line history next after told rest p q =
+    let there : Told task then line history rest after = subst (λ n. Told task then n history rest after) number (subst (λ h. Told task then (line + 0) h rest after) p.1 q) in
+    subst (λ l. Told task then line history (l ++ rest) after) (sym p.0) there
+told_joined task (item ∷ items) then line history next after told rest p q =
     let number : line + suc (length items) ≡ (line + 1) + length items = omega arith in
-    let later : Told setting (items ++ then) (line + 1) p.2 (p.1 ++ rest) after =
-    told_joined setting items then (line + 1) p.2 next after p.1 rest p.4 (subst (λ n. Told setting then n next rest after) number q) in
+    let later : Told task (items ++ then) (line + 1) p.2 (p.1 ++ rest) after =
+    told_joined task items then (line + 1) p.2 next after p.1 rest p.4 (subst (λ n. Told task then n next rest after) number q) in
     (p.0, p.1 ++ rest, p.2, p.3, later, ap (λ l. l ++ rest) p.5 ∙ append_assoc p.0 p.1 rest)
 
 pub told_parts : ToldParts
-told_parts setting [] then line history after told p =
+told_parts task [] then line history after told p =
     let number : line ≡ line + 0 = omega arith in
-    record { front = []; rest = told; next = history; tells_front = (refl, refl); tells_rest = subst (λ n. Told setting then n history told after) number p; joined = refl }
-told_parts setting (item ∷ items) then line history after told p =
-    let parts : Parts setting items then (line + 1) p.2 after p.1 = told_parts setting items then (line + 1) p.2 after p.1 p.4 in
+    record { front = []; rest = told; next = history; tells_front = (refl, refl); tells_rest = subst (λ n. Told task then n history told after) number p; joined = refl }
+told_parts task (item ∷ items) then line history after told p =
+    let parts : Parts task items then (line + 1) p.2 after p.1 = told_parts task items then (line + 1) p.2 after p.1 p.4 in
     let number : (line + 1) + length items ≡ line + suc (length items) = omega arith in
     record {
       front = p.0 ++ parts.front;
       rest = parts.rest;
       next = parts.next;
       tells_front = (p.0, parts.front, p.2, p.3, parts.tells_front, refl);
-      tells_rest = subst (λ n. Told setting then n parts.next parts.rest after) number parts.tells_rest;
+      tells_rest = subst (λ n. Told task then n parts.next parts.rest after) number parts.tells_rest;
       joined = p.5 ∙ (ap (λ l. p.0 ++ l) parts.joined ∙ sym (append_assoc p.0 parts.front parts.rest));
     }

@@ -6,7 +6,7 @@ use Rattle.edge_io.specs.Held.{Store}
 use Rattle.monitor_run.specs.declared.ending.Status.{Status}
 use Rattle.monitor_run.specs.declared.ending.Status.TheVariants.{Done, Memory}
 use Rattle.monitor_core.specs.Setting.{Setting}
-use Rattle.monitor_run.specs.Opening.{AreWatch}
+use Rattle.command_words.specs.Meanings.{Watching, watch, meaning_of_words}
 use Rattle.monitor_run.specs.Sources.{Opens}
 use Rattle.monitor_run.specs.Running.{Outside, Ran}
 
@@ -19,12 +19,11 @@ pub record HasGoodFiles (ontology_name queries_name : List ℕ) (before now : Ou
   pub no_file_fault : ¬ Rose before.file_faults now.file_faults
   pub no_write_fault : ¬ Rose before.write_faults now.write_faults
 
--- the words name such files, the stream is within its limit, and its count did not rise either
+-- the words are of a watch of such files, the stream is within its limit, and its count did not rise either
 pub record IsGood (words : List (List ℕ)) (before now : Outside) : Type 0 where
-  pub ontology_name : List ℕ
-  pub queries_name : List ℕ
-  pub words_are : AreWatch words ontology_name queries_name
-  pub files : HasGoodFiles ontology_name queries_name before now
+  pub asked : Watching
+  pub words_mean : meaning_of_words words ≡ Some (watch asked)
+  pub files : HasGoodFiles asked.ontology asked.queries before now
   pub stream : List ℕ
   pub left : before.left ≡ Some stream
   pub short : length stream ≤ 2 ^ 40

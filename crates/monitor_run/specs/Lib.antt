@@ -1,3 +1,4 @@
+pub mod Task
 pub mod Outcome
 pub mod Told
 pub mod Report
@@ -15,3 +16,4 @@ pub mod Reaching
 pub mod Sources
 pub mod Rewriting
 pub mod RewritingLaws
+pub mod Drill

@@ -1,5 +1,5 @@
 -- What the files of an ontology and of queries say, whatever it is.
-use Rattle.std.specs.Prelude.{◌≡◌, ◌⊎◌, ℕ, List, [], ◌∷◌, Option, Ok, Err, codes}
+use Rattle.std.specs.Prelude.{◌≡◌, ◌⊎◌, ℕ, List, Option, Ok, Err}
 use Rattle.dl_syntax.specs.Ontology.{Declared}
 use Rattle.edge_io.specs.Causes.{Rose}
 use Rattle.edge_io.specs.Held.{Store, Lacks}
@@ -12,19 +12,8 @@ use Rattle.monitor_core.specs.Keeping.{Monitored}
 use Rattle.monitor_core.specs.Standing.{Stands, setting_of, no_history}
 use Rattle.monitor_run.specs.declared.ending.Ending.{Ending}
 use Rattle.monitor_run.specs.declared.ending.Ending.TheVariants.{BadOntology, TooManyRewritings, BadQueries, ReadFault, Memory}
-use Rattle.monitor_run.specs.Opening.{IsFileWord, HasText}
+use Rattle.monitor_run.specs.Opening.{HasText}
 use Rattle.monitor_run.specs.Reaching.{AreTooMany}
-
-pub record IsRewrite (command ontology queries : List ℕ) : Type 0 where
-  pub command_is : command ≡ codes "rewrite"
-  pub ontology_is : IsFileWord ontology
-  pub queries_is : IsFileWord queries
-
--- the words are `rewrite ONTOLOGY QUERIES`
-pub record AreRewrite (words : List (List ℕ)) (ontology queries : List ℕ) : Type 0 where
-  pub command : List ℕ
-  pub words_are : words ≡ command ∷ ontology ∷ queries ∷ []
-  pub rewrite : IsRewrite command ontology queries
 
 -- a fetch of this name failed
 abbrev pub IsFetchRefused : Option Store → ℕ → ℕ → List ℕ → Ending → Type 0

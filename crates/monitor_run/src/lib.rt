@@ -2,13 +2,14 @@
 #![tactic(auto)]
 
 mod command;
+mod drilling;
 mod ending;
 mod error_line;
 pub mod laws;
 mod leaf_texts;
 mod opening;
+mod options;
 mod reaching;
-mod reply;
 mod rewriting;
 mod rewriting_files;
 mod running;
@@ -16,7 +17,6 @@ mod sources;
 mod telling;
 #[cfg(test)]
 mod tests;
-mod words;
 mod writing;
 
 pub use command::run;

@@ -4,10 +4,11 @@ ghost use Rattle.tcq_syntax.specs.Within.{AreWithin};
 ghost use Rattle.monitor_core.specs.Standing.{Stands, setting_of, no_history};
 ghost use Rattle.monitor_run.specs.Reaching.{AreTooMany};
 ghost use Rattle.monitor_run.specs.Sources.{IsOpeningRefused, Opened, Refuses};
+ghost use Rattle.monitor_run.specs.Drill.{OpenedTexts, RefusesTexts};
 
 use crate::ending::Ending;
 use crate::rewriting::REWRITING_LIMIT;
-use crate::sources::{Sources, read_sources};
+use crate::sources::{Sources, read_sources, read_texts};
 use edge_io::Files;
 use monitor_core::{Monitor, OpenFault};
 use std::alloc::Global;
@@ -40,6 +41,21 @@ pub fn open_files<F: Files>(
     ensures held { F.held files.new ≡ F.held files.old }
 {
     let sources = match read_sources(alloc, files, ontology, queries) {
+        Ok(sources) => sources,
+        Err(ending) => return Err(ending),
+    };
+    match monitor_of(alloc, sources) {
+        Ok(monitor) => Ok(monitor),
+        Err(ending) => Err(ending),
+    }
+}
+
+/// The monitor of these texts, before any snapshot, or how the run ends.
+pub fn open_texts(alloc: Global, ontology: &[u8], queries: &[u8]) -> Result<Monitor, Ending>
+    ensures opens { IfOk result (λ monitor. OpenedTexts ontology.now queries.now monitor) }
+    ensures refuses { IfErr result (λ ending. RefusesTexts ontology.now queries.now ending) }
+{
+    let sources = match read_texts(alloc, ontology, queries) {
         Ok(sources) => sources,
         Err(ending) => return Err(ending),
     };

@@ -1,27 +1,14 @@
 // The command `rewrite`.
 ghost use Rattle.std.specs.Prelude.{◌≡◌};
-ghost use Rattle.edge_io.specs.Causes.{Rose};
-ghost use Rattle.monitor_run.specs.Ends.{Finishes};
 ghost use Rattle.monitor_run.specs.Rewriting.{RewriteEnds};
 
 use crate::ending::Ending;
 use crate::rewriting::rewriting_text;
 use crate::sources::read_sources;
-use edge_io::{Files, Sink, write_all};
+use crate::writing::write_text;
+use edge_io::{Files, Sink};
 use perfect_ref::RewriteFault;
 use std::alloc::Global;
-
-/// Writes the text.
-fn write_text<K: Sink>(out: &mut K, text: &[u8]) -> Ending
-    ensures finishes { Finishes (K.got out.old) (K.got out.new) text.now result }
-    ensures write { result ≡ Ending.WriteFault → Rose (K.faults out.old) (K.faults out.new) }
-    ensures kept { result ≡ Ending.Memory → K.got out.new ≡ K.got out.old }
-{
-    match write_all(out, text) {
-        Ok(()) => Ending::Done,
-        Err(_) => Ending::WriteFault,
-    }
-}
 
 /// Writes the rewritings of all leaves, by the files of these names.
 pub fn rewrite_files<F: Files, K: Sink>(

@@ -4,6 +4,7 @@ ghost use Rattle.edge_io.specs.Held.{IsFetched};
 ghost use Rattle.ontology_reader.specs.Texts.{text_says};
 ghost use Rattle.tcq_reader.specs.Reading.{SaysQueries};
 ghost use Rattle.monitor_run.specs.Sources.{IsOntologyAtFault, AreQueriesAtFault, IsFetchRefused, Sayings, Refuses};
+ghost use Rattle.monitor_run.specs.Drill.{TextsSay, RefusesTexts};
 
 use crate::ending::Ending;
 use dl_syntax::Ontology;
@@ -84,6 +85,24 @@ pub fn read_sources<F: Files>(
     };
     match queries_of(alloc, &text, &ontology) {
         Ok(queries) => Ok(Sources { ontology, queries }),
+        Err(ending) => Err(ending),
+    }
+}
+
+/// What these texts say, or how the run ends.
+pub fn read_texts(alloc: Global, ontology: &[u8], queries: &[u8]) -> Result<Sources, Ending>
+    ensures say { IfOk result (λ sources. TextsSay ontology.now queries.now (record { ontology = sources.ontology; queries = sources.queries.items })) }
+    ensures refuses { IfErr result (λ ending. RefusesTexts ontology.now queries.now ending) }
+{
+    let said = match ontology_of(alloc, ontology) {
+        Ok(ontology) => ontology,
+        Err(ending) => return Err(ending),
+    };
+    match queries_of(alloc, queries, &said) {
+        Ok(queries) => Ok(Sources {
+            ontology: said,
+            queries,
+        }),
         Err(ending) => Err(ending),
     }
 }

@@ -1,6 +1,7 @@
 ghost use Rattle.std.specs.Prelude.{◌≤◌};
 
 mod following;
+mod forms;
 mod queries;
 mod rewriting;
 

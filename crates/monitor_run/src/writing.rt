@@ -1,7 +1,10 @@
 // Moving gathered bytes to a sink.
-ghost use Rattle.edge_io.specs.Causes.{HasCause};
+ghost use Rattle.std.specs.Prelude.{◌≡◌};
+ghost use Rattle.edge_io.specs.Causes.{HasCause, Rose};
+ghost use Rattle.monitor_run.specs.Ends.{Finishes};
 ghost use Rattle.monitor_run.specs.Writing.{Flushes};
 
+use crate::ending::Ending;
 use edge_io::{Failed, Sink, write_all};
 
 /// How many bytes are gathered before they are written.
@@ -17,4 +20,16 @@ pub fn flush<K: Sink>(is_waiting: bool, gathered: &mut Vec<u8>, out: &mut K) -> 
         gathered.clear();
     }
     Ok(())
+}
+
+/// Writes a whole text.
+pub fn write_text<K: Sink>(out: &mut K, text: &[u8]) -> Ending
+    ensures finishes { Finishes (K.got out.old) (K.got out.new) text.now result }
+    ensures write { result ≡ Ending.WriteFault → Rose (K.faults out.old) (K.faults out.new) }
+    ensures kept { result ≡ Ending.Memory → K.got out.new ≡ K.got out.old }
+{
+    match write_all(out, text) {
+        Ok(()) => Ending::Done,
+        Err(_) => Ending::WriteFault,
+    }
 }

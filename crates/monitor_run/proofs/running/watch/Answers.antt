@@ -1,22 +1,23 @@
 use Rattle.std.proofs.Common.{◌≡◌, ◌<◌, Ok, Err, length, refl, ◌∙◌, subst, arith}
 use Rattle.edge_io.specs.Reading.{NextDid, given_by, outcome_of_line}
 use Rattle.edge_io.specs.declared.line.Line.TheVariants.{End}
-use Rattle.monitor_core.specs.Standing.{setting_of}
+use Rattle.monitor_run.specs.Task.{task_of}
 use Rattle.monitor_run.specs.Report.{heading}
 use Rattle.monitor_run.proofs.Serving.{serves_first, serves_flushed, serves_told}
 use Rattle.monitor_run.proofs.Stopping.{nothing_done, flush_failed, memory_failed, was_waiting, stops, finishes, one_given}
 use Rattle.monitor_run.proofs.running.watch.Goals as goal
 
 pub returns-in-Err-clause-watched : goal.returns-in-Err-clause-watched
-returns-in-Err-clause-watched g c = λ history stands. nothing_done (setting_of c.args.monitor.now) history (g.S.Source.left c.args.input.now) (g.K.Sink.got c.args.out.now)
+returns-in-Err-clause-watched g c = λ history stands. nothing_done (task_of c.args.options c.args.monitor.now) history (g.S.Source.left c.args.input.now) (g.K.Sink.got c.args.out.now)
 
 pub returns-in-Err-to_vec-clause-watched : goal.returns-in-Err-to_vec-clause-watched
-returns-in-Err-to_vec-clause-watched g c = λ history stands. nothing_done (setting_of c.args.monitor.now) history (g.S.Source.left c.args.input.now) (g.K.Sink.got c.args.out.now)
+returns-in-Err-to_vec-clause-watched g c = λ history stands. nothing_done (task_of c.args.options c.args.monitor.now) history (g.S.Source.left c.args.input.now) (g.K.Sink.got c.args.out.now)
 
 pub loop-gathered-init : goal.loop-gathered-init
 unfolding heading
 loop-gathered-init g c = record {
-  serves = λ history stands. serves_first (setting_of c.args.monitor.now) history (g.S.Source.left c.args.input.now) (g.K.Sink.got c.args.out.now) c.in-Ok.reader c.args.monitor.now c.in-Ok-to_vec.gathered.items c.in-Ok.ensures (c.in-Ok-to_vec.ensures.items_if_clones_equal (λ x y e. e) ∙ c.heading.ensures) refl stands;
+  serves = λ history stands. serves_first (task_of c.args.options c.args.monitor.now) history (g.S.Source.left c.args.input.now) (g.K.Sink.got c.args.out.now) c.in-Ok.reader c.args.monitor.now c.in-Ok-to_vec.gathered.items c.in-Ok.ensures (c.in-Ok-to_vec.ensures.items_if_clones_equal (λ x y e. e) ∙ c.report_heading.ensures) refl stands;
+  same = refl;
   few = rw c.in-Ok.ensures (omega arith);
   fewer = omega arith;
   read = omega arith;
@@ -50,7 +51,7 @@ returns-in-End-clause-watched g c =
     let last : NextDid first new before now (Ok End) = subst (λ l. NextDid first new before now (Ok l)) c.in-End.is did in
     λ history stands.
     let serves = serves_flushed _ _ _ _ _ _ _ _ _ _ _ _ _ _ (c.loop-gathered.invariant.serves history stands) c.in_default.ensures.flushes in
-    finishes _ _ _ _ _ _ _ _ _ _ _ serves c.finish.result now (g.K.Sink.got c.finish.new.out) new last c.finish.ensures.finishes
+    finishes _ _ _ _ _ _ _ _ _ _ _ serves c.args.options c.finish.result now (g.K.Sink.got c.finish.new.out) new refl last c.finish.ensures.finishes
 
 pub loop-gathered-preserved : goal.loop-gathered-preserved
 loop-gathered-preserved g c =
@@ -65,7 +66,8 @@ loop-gathered-preserved g c =
     record {
       serves = λ history stands.
           let serves = serves_flushed _ _ _ _ _ _ _ _ _ _ _ _ _ _ (c.loop-gathered.invariant.serves history stands) c.in_default.ensures.flushes in
-          serves_told _ _ _ _ _ _ _ _ new _ c.tell.new.monitor _ c.tell.new.gathered.items _ _ c.in-Ok-tell.more _ serves did.reads one c.tell.ensures.setting c.in-Ok-tell.ensures.ok;
+          serves_told c.args.options _ _ _ _ _ _ _ _ new _ c.tell.new.monitor _ c.tell.new.gathered.items _ _ c.in-Ok-tell.more _ serves did.reads one refl c.tell.ensures.setting c.in-Ok-tell.ensures.ok;
+      same = c.tell.ensures.setting ∙ c.loop-gathered.invariant.same;
       few = omega (arith, c.loop-gathered.invariant.few, did.nearer some);
       fewer = omega (arith, c.loop-gathered.invariant.fewer, c.in-Ok-tell.ensures.small);
       read = omega (arith, c.loop-gathered.invariant.read, c.next.ensures.later);
