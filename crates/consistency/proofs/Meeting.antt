@@ -1,9 +1,9 @@
 -- The rewritings tell which clashes are met.
 use Rattle.std.proofs.Common.{◌≡◌, ℕ, ◌+◌, ◌<◌, ◌≤◌, List, [], length, sym, ◌∙◌, ap, subst, arith, inl, inr}
-use Rattle.std.specs.Prelude.{◌↔◌, Option, None, Some, slice_get}
+use Rattle.std.specs.Prelude.{◌↔◌, Option, None, Some, slice_get, option_map}
 use Rattle.std.specs.List.{All, AllZip, Contains}
 use Rattle.std.proofs.lemmas.Bool.{cases_lt}
-use Rattle.std.proofs.lemmas.Option.{slice_get-get_or, slice_get_within}
+use Rattle.std.proofs.lemmas.Option.{slice_get-get_or, slice_get_within, slice_get-map}
 use Rattle.std.proofs.lemmas.List.Elements.{All-weaker}
 use Rattle.dl_syntax.specs.declared.facts.Fact.{Fact}
 use Rattle.dl_syntax.specs.declared.ontology.Inclusion.{Inclusion}
@@ -22,13 +22,14 @@ use Rattle.perfect_ref.specs.Plain.{Encoded, encoded, PlainReachable, PlainCore}
 use Rattle.perfect_ref.specs.Laws.{IsOverOntology, IsSaturated, SomeGives}
 use Rattle.perfect_ref.proofs.Answering.{Steps-query, answers_of_list, answers_of_core}
 use Rattle.ucq_join.specs.Answers.{IsUnionAnswer}
+use Rattle.ucq_join.proofs.Alike.{answers_alike}
 use Rattle.consistency.specs.declared.rewriting.Rewriting.{Rewriting}
 use Rattle.consistency.specs.Asking.{query_of, HasEmptyHead}
 use Rattle.consistency.specs.declared.rewriting.Part.{Part}
 use Rattle.consistency.specs.declared.rewriting.Part.TheVariants.{Whole, Core}
 use Rattle.consistency.specs.Least.{IsLeastClash, IsConsistentUnder, IsFirstClash}
-use Rattle.consistency.specs.Matching.{AsksForMatch, HasMatchIn, NoneBefore, IsFirstAt, IsFirstMatch}
-use Rattle.consistency.specs.Prepared.{Prepared, IsPrepared, IsPreparedFor, IsRewriting, encoding_of}
+use Rattle.consistency.specs.Matching.{part_of, AsksForMatch, HasMatchIn, NoneBefore, IsFirstAt, IsFirstMatch, AgreeOnPart}
+use Rattle.consistency.specs.Prepared.{Prepared, IsPrepared, IsPreparedFor, IsRewriting, AgreeOnCores, encoding_of}
 use Rattle.consistency.proofs.Zipped.{AllZip-right, AllZip-left, AllZip-combined, AllZip-all, AllZip-length}
 use Rattle.consistency.proofs.ClashQueries.{clash_is_asked, query_is_query, query_is_declared}
 
@@ -159,3 +160,22 @@ all_ask p part prepared = AllZip-all (IsRewriting (encoding_of p)) (AsksForMatch
 
 pub few_rewritings : (p : Prepared) → IsPrepared p → length p.rewritings ≤ 4096
 few_rewritings p prepared = subst (λ (n : ℕ). n ≤ 4096) (AllZip-length (IsRewriting (encoding_of p)) p.clashes p.rewritings prepared.rewritten) prepared.few
+
+-- the first match is the same among facts of which the rewritings are told the same
+module _ (facts other : List Fact) (part : Part) (rewritings : List Rewriting) (agree : AgreeOnPart part rewritings facts other) where
+  none_alike : (place : ℕ) → NoneBefore other part rewritings place → NoneBefore facts part rewritings place
+  none_alike place before = record { none = λ k r below there found. before.none k r below there ((answers_alike (part_of part r) facts other [] (agree k r there)).0 found) }
+
+  pub first_alike : (first : Option ℕ) → IsFirstMatch other part rewritings first → IsFirstMatch facts part rewritings first
+  first_alike None none = none_alike (length rewritings) none
+  first_alike (Some number) first = record {
+    place = first.place;
+    counted = first.counted;
+    rewriting = first.rewriting;
+    listed = first.listed;
+    matches = (answers_alike (part_of part first.rewriting) facts other [] (agree first.place first.rewriting first.listed)).1 first.matches;
+    earlier = none_alike first.place first.earlier;
+  }
+
+pub on_part : (p : Prepared) (facts other : List Fact) → AgreeOnCores p facts other → AgreeOnPart Core p.rewritings facts other
+on_part p facts other agree = λ place r there. agree place r.core.items (slice_get-map (λ (z : Rewriting). z.core.items) p.rewritings place ∙ ap (option_map (λ (z : Rewriting). z.core.items)) there)

@@ -5,6 +5,7 @@ use Rattle.dl_syntax.specs.declared.facts.Fact.{Fact}
 use Rattle.dl_syntax.specs.declared.queries.Cq.{Cq}
 use Rattle.dl_syntax.specs.Queries.{IsQuery}
 use Rattle.ucq_join.specs.Answers.{IsUnionAnswer}
+use Rattle.ucq_join.specs.Alike.{AgreeOnUnion}
 use Rattle.consistency.specs.declared.rewriting.Part.{Part}
 use Rattle.consistency.specs.declared.rewriting.Part.TheVariants.{Whole, Core}
 use Rattle.consistency.specs.declared.rewriting.Rewriting.{Rewriting}
@@ -41,3 +42,7 @@ pub record IsFirstAt (facts : List Fact) (part : Part) (rewritings : List Rewrit
 abbrev pub IsFirstMatch : List Fact → Part → List Rewriting → Option ℕ → Type 0
 IsFirstMatch facts part rewritings None = NoneBefore facts part rewritings (length rewritings)
 IsFirstMatch facts part rewritings (Some number) = IsFirstAt facts part rewritings number
+
+-- both lists have the same facts of the predicates of what is asked
+abbrev pub AgreeOnPart : Part → List Rewriting → List Fact → List Fact → Type 0
+AgreeOnPart part rewritings facts other = (place : ℕ) (r : Rewriting) → slice_get rewritings place ≡ Some r → AgreeOnUnion (part_of part r) facts other

@@ -1,5 +1,5 @@
 -- What is kept of an ontology's clashes.
-use Rattle.std.specs.Prelude.{◌≡◌, ℕ, ◌≤◌, List, length}
+use Rattle.std.specs.Prelude.{◌≡◌, ℕ, ◌≤◌, Some, List, map, length, slice_get}
 use Rattle.std.specs.List.{All, AllZip, sum_by}
 use Rattle.dl_syntax.specs.declared.ontology.Inclusion.{Inclusion}
 use Rattle.dl_syntax.specs.declared.ontology.Clash.{Clash}
@@ -9,6 +9,8 @@ use Rattle.dl_syntax.specs.Encode.{encode}
 use Rattle.dl_syntax.specs.Ontology.{Declared, most_clashes}
 use Rattle.perfect_ref.specs.Plain.{Encoded, Reachable, PlainReachable, PlainCore, IsPlain, Lists, HoldsOf}
 use Rattle.consistency.specs.declared.rewriting.Rewriting.{Rewriting}
+use Rattle.dl_syntax.specs.declared.facts.Fact.{Fact}
+use Rattle.ucq_join.specs.Alike.{AgreeOnUnion}
 use Rattle.consistency.specs.Asking.{query_of}
 
 -- the rewriting of the query, its core, and how many queries are reachable
@@ -35,6 +37,14 @@ pub record Prepared : Type 0 where
 
 abbrev pub encoding_of : Prepared → Encoded
 encoding_of p = record { roles = p.roles; inclusions = encode p.roles p.inclusions }
+
+-- for each clash the queries that are asked of a saturated snapshot
+abbrev pub cores_of : Prepared → List (List Cq)
+cores_of p = map (λ r. r.core.items) p.rewritings
+
+-- both lists have the same facts of their predicates
+abbrev pub AgreeOnCores : Prepared → List Fact → List Fact → Type 0
+AgreeOnCores p facts other = (place : ℕ) (core : List Cq) → slice_get (cores_of p) place ≡ Some core → AgreeOnUnion core facts other
 
 -- all rewritings together reach so many queries
 abbrev pub count_in_all : List Rewriting → ℕ

@@ -1,13 +1,13 @@
-ghost use Rattle.std.specs.Prelude.{◌≡◌, ◌≤◌, IfOk};
+ghost use Rattle.std.specs.Prelude.{◌≡◌, ◌≤◌, ◌<◌, Some, length, slice_get, IfOk};
 ghost use Rattle.perfect_ref.specs.Plain.{encoded};
 ghost use Rattle.consistency.specs.Reached.{ReachInAll, ReachMoreInAll};
 ghost use Rattle.std.specs.List.{All, AllZip};
 ghost use Rattle.consistency.specs.Marked.{Marked};
-ghost use Rattle.consistency.specs.Prepared.{IsPrepared, IsPreparedFor, IsRewriting, encoding_of, count_in_all};
+ghost use Rattle.consistency.specs.Prepared.{IsPrepared, IsPreparedFor, IsRewriting, cores_of, encoding_of, count_in_all};
 
 use crate::marks::Marks;
 use crate::rewriting::{Rewriting, Rewritings, rewrite_clashes};
-use dl_syntax::{Clash, Fact, Inclusion, Kind, Memory, Ontology};
+use dl_syntax::{Clash, Cq, Fact, Inclusion, Kind, Memory, Ontology};
 use perfect_ref::{RewriteFault, Rewriter};
 use std::alloc::Global;
 use std::marker::Model;
@@ -40,6 +40,21 @@ impl Clashes {
         ensures reached { result ≡ self.now.reached }
     {
         self.reached
+    }
+
+    /// How many clashes there are.
+    pub fn count(&self) -> usize
+        ensures { result ≡ length (cores_of self.now) }
+    {
+        self.rewritings.len()
+    }
+
+    /// The queries that tell over a saturated snapshot whether the clash at the place is met.
+    pub fn core(&self, place: usize) -> &[Cq]
+        requires { place < length (cores_of self.now) }
+        ensures { slice_get (cores_of self.now) place ≡ Some result.now }
+    {
+        self.rewritings[place].core.as_slice()
     }
 
     /// The marks of facts over as many concepts and roles.

@@ -10,7 +10,7 @@ ghost use Rattle.consistency.specs.Asking.{HasEmptyHead};
 ghost use Rattle.consistency.specs.Least.{IsFirstClash};
 ghost use Rattle.consistency.specs.Matching.{AsksForMatch, IsFirstMatch};
 ghost use Rattle.consistency.specs.Marked.{Marked};
-ghost use Rattle.consistency.specs.Prepared.{IsPreparedFor};
+ghost use Rattle.consistency.specs.Prepared.{IsPreparedFor, AgreeOnCores};
 
 use crate::clashes::Clashes;
 use crate::marks::Marks;
@@ -96,13 +96,13 @@ pub fn first_clash(alloc: Global, clashes: &Clashes, index: &Index) -> Result<Op
     first_match(alloc, clashes.rewritings(), Part::Whole, index, &marks)
 }
 
-/// The same over the index of a saturated snapshot, which has exactly the facts over individuals that some run of the snapshot holds: the least number of a clash that some run of the snapshot meets, and none exactly where the snapshot is consistent. A clash that is met at nulls alone counts too.
+/// The same over the index of a saturated snapshot, which has exactly the facts over individuals that some run of the snapshot holds: the least number of a clash that some run of the snapshot meets, and none exactly where the snapshot is consistent. A clash that is met at nulls alone counts too. The index may lack facts of predicates that no core names, or have others.
 pub fn first_clash_closed(
     alloc: Global,
     clashes: &Clashes,
     index: &Index,
 ) -> Result<Option<u32>, Memory>
-    ensures { IfOk result (λ first. (o : Declared) (snapshot : List Fact) → IsPreparedFor clashes.now o → IsOverOntology o snapshot → IsSaturated o snapshot index.now → IsFirstClash o snapshot first) }
+    ensures { IfOk result (λ first. (o : Declared) (snapshot facts : List Fact) → IsPreparedFor clashes.now o → IsOverOntology o snapshot → IsSaturated o snapshot facts → AgreeOnCores clashes.now facts index.now → IsFirstClash o snapshot first) }
 {
     let marks = clashes.marks(alloc, index.facts())?;
     first_match(alloc, clashes.rewritings(), Part::Core, index, &marks)

@@ -3,11 +3,11 @@ use Rattle.std.proofs.Common.{◌≡◌, List, [], ◌∷◌, refl, sym, ◌∙�
 use Rattle.dl_syntax.specs.declared.facts.Fact.{Fact}
 use Rattle.dl_syntax.specs.Rows.{Relation}
 use Rattle.tcq_syntax.specs.Histories.{History, with_snapshot}
-use Rattle.perfect_ref.specs.Laws.{IsOverOntology, IsSaturated}
+use Rattle.perfect_ref.specs.Laws.{IsOverOntology}
 use Rattle.monitor_core.specs.declared.plan.Plan.{Plan}
 use Rattle.monitor_core.specs.declared.state.State.{State}
 use Rattle.monitor_core.specs.Keeping.{Monitored, IsMonitored}
-use Rattle.monitor_core.specs.Advancing.{one_more}
+use Rattle.monitor_core.specs.Advancing.{one_more, AreSeen}
 use Rattle.monitor_core.specs.Answering.{AreOver, AreRowsOf}
 use Rattle.monitor_core.specs.Standing.{Stands, Accepts, IsNext, setting_of, count_of}
 use Rattle.monitor_core.proofs.Saturating.{over_ontology}
@@ -28,7 +28,7 @@ module _ (old : Monitored) (facts : List Fact) (state : State) (relations : List
   still_monitored is = record {
     plan = is.plan;
     state = next.sound;
-    fits = all_fit old.plan.ontology facts old.plan.queries.items old.state.kept.items state.kept.items relations next.advance;
+    fits = all_fit old.plan.ontology old.plan.sight facts old.plan.queries.items old.state.kept.items state.kept.items relations next.advance;
   }
 
   pub same_setting : setting_of after ≡ setting_of old
@@ -37,15 +37,15 @@ module _ (old : Monitored) (facts : List Fact) (state : State) (relations : List
 
   pub next_rows : AreRowsOf (setting_of old).ontology (setting_of old).queries relations
   unfolding setting_of
-  next_rows = all_rows old.plan.ontology facts old.plan.queries.items old.state.kept.items state.kept.items relations next.advance
+  next_rows = all_rows old.plan.ontology old.plan.sight facts old.plan.queries.items old.state.kept.items state.kept.items relations next.advance
 
-  pub accepts : (snapshot : List Fact) (history : History) → IsOverOntology old.plan.ontology snapshot → IsSaturated old.plan.ontology snapshot facts → Stands old history → Accepts old after snapshot relations history
+  pub accepts : (snapshot : List Fact) (history : History) → IsOverOntology old.plan.ontology snapshot → AreSeen old.plan.ontology old.plan.sight snapshot facts → Stands old history → Accepts old after snapshot relations history
   unfolding Stands setting_of
   accepts snapshot history over saturated stands = record {
     stands = (
       next.counted ∙ (ap one_more stands.0 ∙ count_more history snapshot),
       stands.1,
-      all_stand old.plan.ontology facts history snapshot stands.1 over saturated old.plan.queries.items old.state.kept.items state.kept.items relations next.advance stands.2,
+      all_stand old.plan.ontology old.plan.sight facts history snapshot stands.1 over saturated old.plan.queries.items old.state.kept.items state.kept.items relations next.advance stands.2,
     );
-    answers = all_answers old.plan.ontology facts history snapshot stands.1 over saturated old.plan.queries.items old.state.kept.items state.kept.items relations next.advance stands.2;
+    answers = all_answers old.plan.ontology old.plan.sight facts history snapshot stands.1 over saturated old.plan.queries.items old.state.kept.items state.kept.items relations next.advance stands.2;
   }

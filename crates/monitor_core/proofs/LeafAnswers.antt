@@ -21,12 +21,17 @@ use Rattle.query_unify.specs.Saturation.{IsCore, begin, made}
 use Rattle.query_unify.proofs.Bound.{IsQuery-normalise}
 use Rattle.query_unify.proofs.Shorter.{normalise-short}
 use Rattle.perfect_ref.specs.Plain.{Encoded, encoded, PlainCore}
-use Rattle.perfect_ref.specs.Laws.{IsOverOntology, IsQueryOver, IsSaturated, SomeGives}
+use Rattle.perfect_ref.specs.Laws.{IsOverOntology, IsQueryOver, SomeGives}
 use Rattle.perfect_ref.proofs.Answering.{Steps-query, answers_of_core}
 use Rattle.ucq_join.specs.Answers.{IsUnionAnswer}
+use Rattle.ucq_join.proofs.Alike.{answers_alike}
+use Rattle.saturate.specs.declared.sight.Sight.{Sight}
+use Rattle.saturate.specs.Sight.{SeesUnion}
 use Rattle.progression.specs.Kept.{AreCertain}
 use Rattle.monitor_core.specs.declared.plan.Leaf.{Leaf}
 use Rattle.monitor_core.specs.Planning.{IsLeaf, IsLeafOf, AreLeaves}
+use Rattle.monitor_core.specs.Advancing.{AreSeen}
+use Rattle.monitor_core.proofs.Seeing.{agree_on_seen}
 use Rattle.monitor_core.specs.Leaves.{AsksWell, AreUnionAnswers}
 
 -- the core holds queries within the limits, with heads as long
@@ -43,31 +48,35 @@ leaf_asks_well e q leaf query is = record {
 pub all_ask_well : (e : Encoded) (leaves : List Leaf) → AreLeaves e leaves → All AsksWell leaves
 all_ask_well e leaves are = All-weaker (IsLeaf e) AsksWell (λ leaf is. leaf_asks_well e leaf.query leaf is.query is.of) leaves are
 
--- the relation is the answer of a leaf that asks the query
-abbrev pub IsAnswered : Encoded → List Fact → Cq → Relation → Type 0
-IsAnswered e facts q relation = (leaf : Leaf) × IsLeafOf e q leaf × AreUnionAnswers facts leaf relation
+-- the relation is the answer of a leaf that asks the query and whose predicates are looked at
+abbrev pub IsAnswered : Encoded → Sight → List Fact → Cq → Relation → Type 0
+IsAnswered e sight facts q relation = (leaf : Leaf) × IsLeafOf e q leaf × SeesUnion sight leaf.core.items × AreUnionAnswers facts leaf relation
 
-module _ (o : Declared) (snapshot facts : List Fact) (over : IsOverOntology o snapshot) (saturated : IsSaturated o snapshot facts) where
-  union_gives : (union : List Cq) (row : List IndId) → IsUnionAnswer facts union row ↔ SomeGives (Contains union) facts row
+module _ (o : Declared) (sight : Sight) (snapshot facts : List Fact) (over : IsOverOntology o snapshot) (saturated : AreSeen o sight snapshot facts) where
+  abbrev whole : List Fact
+  whole = saturated.0
+
+  union_gives : (union : List Cq) (row : List IndId) → IsUnionAnswer whole union row ↔ SomeGives (Contains union) whole row
   union_gives union row = (
     λ (q, there, answer). (q, there, record { assignment = answer.assignment; match = answer.match; head = answer.head }),
     λ (q, there, given). (q, there, record { assignment = given.assignment; match = given.match; head = given.head }),
   )
 
-  leaf_certain : (q : Cq) (leaf : Leaf) (relation : Relation) → IsQueryOver o q → IsLeafOf (encoded o) q leaf → AreUnionAnswers facts leaf relation → AreCertain o.inclusions snapshot q relation
-  leaf_certain q leaf relation declared is answers row =
-      let exact : SomeGives (Contains leaf.core.items) facts row ↔ Certain o.inclusions q snapshot row = answers_of_core o q leaf.core.items declared is.core snapshot facts row over saturated in
+  leaf_certain : (q : Cq) (leaf : Leaf) (relation : Relation) → IsQueryOver o q → IsLeafOf (encoded o) q leaf → SeesUnion sight leaf.core.items → AreUnionAnswers facts leaf relation → AreCertain o.inclusions snapshot q relation
+  leaf_certain q leaf relation declared is seen answers row =
+      let exact : SomeGives (Contains leaf.core.items) whole row ↔ Certain o.inclusions q snapshot row = answers_of_core o q leaf.core.items declared is.core snapshot whole row over saturated.1 in
+      let alike : IsUnionAnswer whole leaf.core.items row ↔ IsUnionAnswer facts leaf.core.items row = answers_alike leaf.core.items whole facts row (agree_on_seen sight whole facts saturated.2 leaf.core.items seen) in
       let rows : Contains relation.rows row ↔ IsUnionAnswer facts leaf.core.items row = answers.rows row in (
-        λ h. exact.0 ((union_gives leaf.core.items row).0 (rows.0 h)),
-        λ h. rows.1 ((union_gives leaf.core.items row).1 (exact.1 h)),
+        λ h. exact.0 ((union_gives leaf.core.items row).0 (alike.1 (rows.0 h))),
+        λ h. rows.1 (alike.0 ((union_gives leaf.core.items row).1 (exact.1 h))),
       )
 
-  pub leaves_certain : (qs : List Cq) (relations : List Relation) → All (IsQueryOver o) qs → AllZip (IsAnswered (encoded o) facts) qs relations → AllZip (AreCertain o.inclusions snapshot) qs relations
+  pub leaves_certain : (qs : List Cq) (relations : List Relation) → All (IsQueryOver o) qs → AllZip (IsAnswered (encoded o) sight facts) qs relations → AllZip (AreCertain o.inclusions snapshot) qs relations
   leaves_certain [] [] declared answered = tt
   leaves_certain [] (r ∷ rs) declared answered = absurd answered
   leaves_certain (q ∷ qs) [] declared answered = absurd answered
   leaves_certain (q ∷ qs) (r ∷ rs) declared answered = (
-    leaf_certain q answered.0.0 r (All-head (IsQueryOver o) q qs declared) answered.0.1 answered.0.2,
+    leaf_certain q answered.0.0 r (All-head (IsQueryOver o) q qs declared) answered.0.1 answered.0.2 answered.0.3,
     leaves_certain qs rs (All-tail (IsQueryOver o) q qs declared) answered.1,
   )
 
@@ -84,11 +93,11 @@ leaf_over facts q leaf relation asks arity answers = record {
   rising = answers.rising;
 }
 
-pub leaves_over : (e : Encoded) (facts : List Fact) (qs : List Cq) (relations : List Relation) → All IsQuery qs → AllZip (IsAnswered e facts) qs relations → AllZip IsOverLeaf qs relations
-leaves_over e facts [] [] queries answered = tt
-leaves_over e facts [] (r ∷ rs) queries answered = absurd answered
-leaves_over e facts (q ∷ qs) [] queries answered = absurd answered
-leaves_over e facts (q ∷ qs) (r ∷ rs) queries answered = (
-  leaf_over facts q answered.0.0 r (leaf_asks_well e q answered.0.0 (All-head IsQuery q qs queries) answered.0.1) answered.0.1.arity answered.0.2,
-  leaves_over e facts qs rs (All-tail IsQuery q qs queries) answered.1,
+pub leaves_over : (e : Encoded) (sight : Sight) (facts : List Fact) (qs : List Cq) (relations : List Relation) → All IsQuery qs → AllZip (IsAnswered e sight facts) qs relations → AllZip IsOverLeaf qs relations
+leaves_over e sight facts [] [] queries answered = tt
+leaves_over e sight facts [] (r ∷ rs) queries answered = absurd answered
+leaves_over e sight facts (q ∷ qs) [] queries answered = absurd answered
+leaves_over e sight facts (q ∷ qs) (r ∷ rs) queries answered = (
+  leaf_over facts q answered.0.0 r (leaf_asks_well e q answered.0.0 (All-head IsQuery q qs queries) answered.0.1) answered.0.1.arity answered.0.3,
+  leaves_over e sight facts qs rs (All-tail IsQuery q qs queries) answered.1,
 )

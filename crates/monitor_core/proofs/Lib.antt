@@ -1,3 +1,4 @@
+pub mod Seeing
 pub mod LeafAnswers
 pub mod Placing
 pub mod Counting

@@ -63,13 +63,13 @@ module _ (plan : Plan) (is : IsPlan plan) (place : ℕ) (within : place < length
     few = subst (λ (n : ℕ). n ^ query.vars ≤ 2 ^ 60) (sym is.counted) (few_tuples (length plan.ontology.individuals) plan.queries.items query there table is.within.small)
 
     -- what a step says over the slots it says of the plan's ontology
-    module _ (facts : List Fact) (relations : List Relation) (answered : AllZip (IsAnswered (encoded plan.ontology) facts) (leaves_of query.nodes) relations) where
+    module _ (facts : List Fact) (relations : List Relation) (answered : AllZip (IsAnswered (encoded plan.ontology) plan.sight facts) (leaves_of query.nodes) relations) where
       pub over : AreOverLeaves query relations
-      over = leaves_over (encoded plan.ontology) facts _ relations (query_leaves query table) answered
+      over = leaves_over (encoded plan.ontology) plan.sight facts _ relations (query_leaves query table) answered
 
       pub advances : (old new : Kept) (rows : Relation) → Fits query plan.slots new → new.count ≡ min (old.count + 1) (2 ^ 64 - 1) → AreRows query plan.slots rows
           → ((inclusions : List Inclusion) (history : History) (snapshot : List Fact) → StandsFor inclusions plan.slots history query old → AreLeafAnswers inclusions snapshot query relations → Steps inclusions plan.slots (with_snapshot snapshot history) query new rows.rows)
-          → Advances plan.ontology query facts old new rows
+          → Advances plan.ontology plan.sight query facts old new rows
       advances old new rows fits counted are steps = record {
         fits = subst (λ (n : ℕ). Fits query n new) is.counted fits;
         counted = counted;
@@ -77,7 +77,7 @@ module _ (plan : Plan) (is : IsPlan plan) (place : ℕ) (within : place < length
         stands = λ history snapshot over saturated stands.
             let o = plan.ontology in
             let before : StandsFor o.inclusions plan.slots history query old = subst (λ (n : ℕ). StandsFor o.inclusions n history query old) (sym is.counted) stands in
-            let certain : AreLeafAnswers o.inclusions snapshot query relations = leaves_certain o snapshot facts over saturated _ relations (over_leaves o query declared) answered in
+            let certain : AreLeafAnswers o.inclusions snapshot query relations = leaves_certain o plan.sight snapshot facts over saturated _ relations (over_leaves o query declared) answered in
             let step : Steps o.inclusions plan.slots (with_snapshot snapshot history) query new rows.rows = steps o.inclusions history snapshot before certain in
             let there : Steps o.inclusions (length o.individuals) (with_snapshot snapshot history) query new rows.rows = subst (λ (n : ℕ). Steps o.inclusions n (with_snapshot snapshot history) query new rows.rows) is.counted step in
             (there.stands, there.answers);
@@ -91,5 +91,5 @@ module _ (plan : Plan) (is : IsPlan plan) (place : ℕ) (within : place < length
       pub within_leaves : (relations : List Relation) → AreLeafRelations plan.leaves.items relations → All (λ (k : ℕ). k < length relations) places.items
       within_leaves relations (facts, answers) = places_within (encoded plan.ontology) plan.leaves.items (length relations) _ places.items (sym (AllZip-long (AreUnionAnswers facts) plan.leaves.items relations answers)) places_at
 
-      pub answered_at : (facts : List Fact) (relations found : List Relation) → AllZip (AreUnionAnswers facts) plan.leaves.items relations → AllZip (StandsAt relations) places.items found → AllZip (IsAnswered (encoded plan.ontology) facts) (leaves_of query.nodes) found
-      answered_at facts relations found answers stand = all_answered (encoded plan.ontology) facts plan.leaves.items relations _ places.items found answers places_at stand
+      pub answered_at : (facts : List Fact) (relations found : List Relation) → AllZip (AreUnionAnswers facts) plan.leaves.items relations → AllZip (StandsAt relations) places.items found → AllZip (IsAnswered (encoded plan.ontology) plan.sight facts) (leaves_of query.nodes) found
+      answered_at facts relations found answers stand = all_answered (encoded plan.ontology) plan.sight facts plan.leaves.items relations _ places.items found is.sees_leaves answers places_at stand

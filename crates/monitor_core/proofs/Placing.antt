@@ -12,8 +12,10 @@ use Rattle.dl_syntax.specs.Queries.{IsQuery}
 use Rattle.dl_syntax.specs.Rows.{Relation}
 use Rattle.tcq_syntax.specs.Tcq.{Tcq}
 use Rattle.perfect_ref.specs.Plain.{Encoded, Reachable, HoldsOf, HoldsOfMore}
+use Rattle.saturate.specs.declared.sight.Sight.{Sight}
+use Rattle.saturate.specs.Sight.{SeesUnion}
 use Rattle.monitor_core.specs.declared.plan.Leaf.{Leaf}
-use Rattle.monitor_core.specs.Planning.{IsLeaf, IsLeafOf, AreLeaves, IsAskedAt, AreAllPlaces}
+use Rattle.monitor_core.specs.Planning.{IsLeaf, IsLeafOf, AreLeaves, SeesLeaves, IsAskedAt, AreAllPlaces}
 use Rattle.monitor_core.specs.Opening.{AsksSame, KeepsLeaves}
 use Rattle.monitor_core.specs.Leaves.{AreUnionAnswers, StandsAt}
 use Rattle.monitor_core.proofs.Askable.{taken_more}
@@ -24,6 +26,9 @@ all_zip_at R [] ys k x y zipped first second = absurd (cc)
 all_zip_at R (v ∷ xs) [] k x y zipped first second = absurd zipped
 all_zip_at R (v ∷ xs) (w ∷ ys) zero x y zipped first second = let one : v ≡ x = cc in let other : w ≡ y = cc in subst (λ a. R a y) one (subst (R v) other zipped.0)
 all_zip_at R (v ∷ xs) (w ∷ ys) (suc k) x y zipped first second = all_zip_at R xs ys k x y zipped.1 first second
+
+at_place : {X : Type 0} (P : X → Type 0) (xs : List X) (k : ℕ) (x : X) → All P xs → slice_get xs k ≡ Some x → P x
+at_place P xs k x all there = subst P (get_or_from_slice_get xs k x x there) (All-get_or P xs k x (slice_get_within xs k x there) all)
 
 slice_get_front : {X : Type 0} (front back : List X) (k : ℕ) (x : X) → slice_get front k ≡ Some x → slice_get (front ++ back) k ≡ Some x
 slice_get_front [] back k x there = absurd (cc)
@@ -40,7 +45,7 @@ kept_push old new leaf is = λ place one there. subst (λ (ls : List Leaf). slic
 module _ (e : Encoded) where
   pub asked_same : (leaves : List Leaf) (q : Cq) (place : ℕ) → AreLeaves e leaves → AsksSame leaves q place → IsAskedAt e leaves q place
   asked_same leaves q place are (leaf, there, same) =
-      let is : IsLeaf e leaf = subst (IsLeaf e) (get_or_from_slice_get leaves place leaf leaf there) (All-get_or (IsLeaf e) leaves place leaf (slice_get_within leaves place leaf there) are) in
+      let is : IsLeaf e leaf = at_place (IsLeaf e) leaves place leaf are there in
       (leaf, there, subst (λ (z : Cq). IsLeafOf e z leaf) same is.of)
 
   pub asked_count : (leaves : List Leaf) (q : Cq) (place : ℕ) (leaf : Leaf) → IsAskedAt e leaves q place → leaf ≡ get_or leaves place leaf → HoldsOf (Reachable e q) leaf.reached
@@ -82,15 +87,15 @@ module _ (e : Encoded) where
       (places_within leaves count qs ks long are.1)
 
   -- the relations at the places answer the queries
-  pub all_answered : (facts : List Fact) (leaves : List Leaf) (relations : List Relation) (qs : List Cq) (places : List ℕ) (found : List Relation) → AllZip (AreUnionAnswers facts) leaves relations → AllZip (IsAskedAt e leaves) qs places → AllZip (StandsAt relations) places found → AllZip (IsAnswered e facts) qs found
-  all_answered facts leaves relations [] [] [] answers are stand = tt
-  all_answered facts leaves relations [] [] (r ∷ rs) answers are stand = absurd stand
-  all_answered facts leaves relations [] (k ∷ ks) rs answers are stand = absurd are
-  all_answered facts leaves relations (q ∷ qs) [] rs answers are stand = absurd are
-  all_answered facts leaves relations (q ∷ qs) (k ∷ ks) [] answers are stand = absurd stand
-  all_answered facts leaves relations (q ∷ qs) (k ∷ ks) (r ∷ rs) answers are stand = (
-    (are.0.0, are.0.2, all_zip_at (AreUnionAnswers facts) leaves relations k are.0.0 r answers are.0.1 stand.0),
-    all_answered facts leaves relations qs ks rs answers are.1 stand.1,
+  pub all_answered : (sight : Sight) (facts : List Fact) (leaves : List Leaf) (relations : List Relation) (qs : List Cq) (places : List ℕ) (found : List Relation) → SeesLeaves sight leaves → AllZip (AreUnionAnswers facts) leaves relations → AllZip (IsAskedAt e leaves) qs places → AllZip (StandsAt relations) places found → AllZip (IsAnswered e sight facts) qs found
+  all_answered sight facts leaves relations [] [] [] seen answers are stand = tt
+  all_answered sight facts leaves relations [] [] (r ∷ rs) seen answers are stand = absurd stand
+  all_answered sight facts leaves relations [] (k ∷ ks) rs seen answers are stand = absurd are
+  all_answered sight facts leaves relations (q ∷ qs) [] rs seen answers are stand = absurd are
+  all_answered sight facts leaves relations (q ∷ qs) (k ∷ ks) [] seen answers are stand = absurd stand
+  all_answered sight facts leaves relations (q ∷ qs) (k ∷ ks) (r ∷ rs) seen answers are stand = (
+    (are.0.0, are.0.2, at_place (λ (l : Leaf). SeesUnion sight l.core.items) leaves k are.0.0 seen are.0.1, all_zip_at (AreUnionAnswers facts) leaves relations k are.0.0 r answers are.0.1 stand.0),
+    all_answered sight facts leaves relations qs ks rs seen answers are.1 stand.1,
   )
 
 -- the relations at the places with one more

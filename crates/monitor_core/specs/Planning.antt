@@ -9,7 +9,9 @@ use Rattle.tcq_syntax.specs.declared.nodes.Node.TheVariants as node
 use Rattle.tcq_syntax.specs.Tcq.{Tcq, IsTcq}
 use Rattle.tcq_syntax.specs.Within.{AreWithin}
 use Rattle.perfect_ref.specs.Plain.{Encoded, encoded, IsPlain, PlainCore, Reachable, Lists, HoldsOf}
-use Rattle.consistency.specs.Prepared.{IsPreparedFor}
+use Rattle.consistency.specs.Prepared.{Prepared, IsPreparedFor, cores_of}
+use Rattle.saturate.specs.declared.sight.Sight.{Sight}
+use Rattle.saturate.specs.Sight.{SeesUnion}
 use Rattle.progression.specs.Tables.{leaves_of}
 use Rattle.monitor_core.specs.declared.plan.Leaf.{Leaf}
 use Rattle.monitor_core.specs.declared.plan.Plan.{Plan}
@@ -51,6 +53,14 @@ ArePlacesOf e leaves query places = AllZip (IsAskedAt e leaves) (leaves_of query
 abbrev pub AreAllPlaces : Encoded → List Leaf → List Tcq → List (Vec ℕ Global) → Type 0
 AreAllPlaces e leaves queries all = AllZip (λ query (places : Vec ℕ Global). ArePlacesOf e leaves query places.items) queries all
 
+-- the predicates of the leaves' cores are looked at
+abbrev pub SeesLeaves : Sight → List Leaf → Type 0
+SeesLeaves sight leaves = All (λ leaf. SeesUnion sight leaf.core.items) leaves
+
+-- those of the clashes' cores are
+abbrev pub SeesClashes : Sight → Prepared → Type 0
+SeesClashes sight clashes = All (SeesUnion sight) (cores_of clashes)
+
 abbrev pub AreTables : List Tcq → Type 0
 AreTables queries = All (λ query. IsTcq query.vars query.nodes) queries
 
@@ -64,3 +74,5 @@ pub record IsPlan (plan : Plan) : Type 0 where
   pub places : AreAllPlaces (encoded plan.ontology) plan.leaves.items plan.queries.items plan.places.items
   pub clashes_for : IsPreparedFor plan.clashes plan.ontology
   pub saturates : plan.saturator ≡ plan.ontology.inclusions
+  pub sees_leaves : SeesLeaves plan.sight plan.leaves.items
+  pub sees_clashes : SeesClashes plan.sight plan.clashes

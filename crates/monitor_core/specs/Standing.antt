@@ -37,11 +37,11 @@ setting_of monitor = record { ontology = monitor.plan.ontology; queries = monito
 unfoldable pub Stands : Monitored → History → Type 0
 Stands monitor history = (monitor.state.count ≡ count_of history) × IsClosed history × AllStand monitor.plan.ontology history monitor.plan.queries.items monitor.state.kept.items
 
--- the state that follows when these facts follow from a snapshot, and the answers then
+-- the state that follows when these facts follow from a snapshot as far as is looked, and the answers then
 pub record IsNext (old : Monitored) (facts : List Fact) (state : State) (relations : List Relation) : Type 0 where
   pub sound : IsState state
   pub counted : state.count ≡ one_more old.state.count
-  pub advance : AllAdvance old.plan.ontology old.plan.queries.items facts old.state.kept.items state.kept.items relations
+  pub advance : AllAdvance old.plan.ontology old.plan.sight old.plan.queries.items facts old.state.kept.items state.kept.items relations
 
 -- a monitor that stood for the history took the snapshot, and answered by these relations
 pub record Accepts (old new : Monitored) (snapshot : List Fact) (relations : List Relation) (history : History) : Type 0 where

@@ -4,14 +4,13 @@ ghost use Rattle.std.specs.List.{AllZip};
 ghost use Rattle.dl_syntax.specs.declared.facts.Fact.{Fact};
 ghost use Rattle.tcq_syntax.specs.Histories.{History};
 ghost use Rattle.tcq_syntax.specs.Tcq.{Tcq};
-ghost use Rattle.perfect_ref.specs.Laws.{IsSaturated};
 ghost use Rattle.progression.specs.Kept.{Fits};
 ghost use Rattle.consistency.specs.Least.{IsLeastClash, IsConsistentUnder};
 ghost use Rattle.monitor_core.specs.Answering.{AreOver, AreRowsOf};
 ghost use Rattle.monitor_core.specs.Planning.{IsPlan};
 ghost use Rattle.monitor_core.specs.Leaves.{AreUnionAnswers, AreLeafRelations};
 ghost use Rattle.monitor_core.specs.Keeping.{AllFit};
-ghost use Rattle.monitor_core.specs.Advancing.{Advances, AllAdvance};
+ghost use Rattle.monitor_core.specs.Advancing.{AreSeen, Advances, AllAdvance};
 ghost use Rattle.monitor_core.specs.Standing.{Stands, Accepts, IsNext, setting_of};
 
 use crate::accept_fault::AcceptFault;
@@ -34,13 +33,13 @@ struct Advanced {
 }
 
 impl Plan {
-    /// The facts over individuals that follow from the snapshot's.
+    /// The facts over individuals that follow from the snapshot's and that leaves or clashes can see.
     fn closed(&self, alloc: Global, snapshot: &Snapshot) -> Result<Index, Memory>
         requires plan { IsPlan self.now }
         requires over { AreOver self.now.ontology snapshot.now }
-        ensures { IfOk result (λ index. IsSaturated self.now.ontology snapshot.now index) }
+        ensures { IfOk result (λ index. AreSeen self.now.ontology self.now.sight snapshot.now index) }
     {
-        let facts = self.saturator.saturate(alloc, snapshot)?;
+        let facts = self.saturator.saturate_seen(alloc, &self.sight, snapshot)?;
         build::index(alloc, &facts)
     }
 
@@ -57,7 +56,7 @@ impl Plan {
         requires relations { AreLeafRelations self.now.leaves.items relations.now }
         requires within { place < length self.now.queries.items }
         requires fits { (query : Tcq) → slice_get self.now.queries.items place ≡ Some query → Fits query (length self.now.ontology.individuals) kept.now }
-        ensures { IfOk result (λ r. (facts : List Fact) (query : Tcq) → AllZip (AreUnionAnswers facts) self.now.leaves.items relations.now → slice_get self.now.queries.items place ≡ Some query → Advances self.now.ontology query facts kept.now r.0 r.1) }
+        ensures { IfOk result (λ r. (facts : List Fact) (query : Tcq) → AllZip (AreUnionAnswers facts) self.now.leaves.items relations.now → slice_get self.now.queries.items place ≡ Some query → Advances self.now.ontology self.now.sight query facts kept.now r.0 r.1) }
     {
         let query = &self.queries[place];
         let places = self.places.as_slice();
@@ -69,7 +68,7 @@ impl Plan {
     fn advanced(&self, alloc: Global, kept: &[Kept], facts: &Index) -> Result<Advanced, Memory>
         requires plan { IsPlan self.now }
         requires fits { AllFit self.now.ontology self.now.queries.items kept.now }
-        ensures { IfOk result (λ a. AllAdvance self.now.ontology self.now.queries.items facts.now kept.now a.kept.items a.answers.items) }
+        ensures { IfOk result (λ a. AllAdvance self.now.ontology self.now.sight self.now.queries.items facts.now kept.now a.kept.items a.answers.items) }
     {
         let relations = leaf_answers(alloc, facts, self.leaves.as_slice())?;
         let mut store = Store::new(alloc);

@@ -7,7 +7,8 @@ ghost use Rattle.tcq_syntax.specs.Tcq.{IsTcq};
 ghost use Rattle.tcq_syntax.specs.Within.{AreWithin};
 ghost use Rattle.perfect_ref.specs.Plain.{encoded, Reachable, HoldsOf, HoldsOfMore};
 ghost use Rattle.progression.specs.Tables.{leaves_of};
-ghost use Rattle.monitor_core.specs.Planning.{IsAskable, HasPlainLeaves, IsLeafOf, AreLeaves, IsAskedAt, AreAllPlaces, AreTables, IsPlan};
+ghost use Rattle.monitor_core.specs.Planning.{IsAskable, HasPlainLeaves, IsLeafOf, AreLeaves, IsAskedAt, AreAllPlaces, AreTables, SeesLeaves, SeesClashes, IsPlan};
+ghost use Rattle.saturate.specs.Sight.{KeepsSight};
 ghost use Rattle.monitor_core.specs.Opening.{all_leaves, ReachAll, ReachMore, AsksSame, KeepsLeaves, Gathers, HasMoreRewritings};
 ghost use Rattle.monitor_core.specs.Keeping.{AllFresh, IsState};
 ghost use Rattle.monitor_core.specs.Standing.{Stands, setting_of, no_history};
@@ -15,11 +16,11 @@ ghost use Rattle.monitor_core.specs.Standing.{Stands, setting_of, no_history};
 use crate::monitor::Monitor;
 use crate::plan::{Leaf, Plan};
 use crate::state::{State, state_of};
-use consistency::prepare;
+use consistency::{Clashes, prepare};
 use dl_syntax::{Cq, Kind, Memory, Ontology};
 use perfect_ref::{RewriteFault, Rewriter};
 use progression::{Kept, start};
-use saturate::Saturator;
+use saturate::{Saturator, Sight, see};
 use std::alloc::Global;
 use tcq_syntax::{Node, Query};
 
@@ -244,6 +245,38 @@ fn all_started(alloc: Global, queries: &[Query]) -> Result<Vec<Kept>, Memory>
     Ok(kept)
 }
 
+/// Looks at the predicates of the leaves' cores too.
+fn see_leaves(sight: &mut Sight, leaves: &[Leaf]) -> Result<(), Memory>
+    ensures { OnOk result (SeesLeaves sight.new leaves.now) }
+{
+    for leaf in leaves {
+        see(sight, leaf.core.as_slice())?;
+    }
+    Ok(())
+}
+
+/// Looks at the predicates of the clashes' cores too.
+fn see_clashes(sight: &mut Sight, clashes: &Clashes) -> Result<(), Memory>
+    ensures seen { OnOk result (SeesClashes sight.new clashes.now) }
+    ensures kept { OnOk result (KeepsSight sight.old sight.new) }
+{
+    for place in 0..clashes.count() {
+        see(sight, clashes.core(place))?;
+    }
+    Ok(())
+}
+
+/// The predicates of the leaves' and of the clashes' cores.
+fn sight_of(alloc: Global, leaves: &[Leaf], clashes: &Clashes) -> Result<Sight, Memory>
+    ensures leaves { IfOk result (λ sight. SeesLeaves sight leaves.now) }
+    ensures clashes { IfOk result (λ sight. SeesClashes sight clashes.now) }
+{
+    let mut sight = Sight::none(alloc);
+    see_leaves(&mut sight, leaves)?;
+    see_clashes(&mut sight, clashes)?;
+    Ok(sight)
+}
+
 /// The plan for the queries under the ontology.
 fn plan_of(
     alloc: Global,
@@ -274,6 +307,10 @@ fn plan_of(
         Ok(saturator) => saturator,
         Err(_) => return Err(RewriteFault::Memory),
     };
+    let sight = match sight_of(alloc, all.leaves.as_slice(), &clashes) {
+        Ok(sight) => sight,
+        Err(_) => return Err(RewriteFault::Memory),
+    };
     let slots = ontology.count(Kind::Individual);
     Ok(Plan {
         ontology,
@@ -283,6 +320,7 @@ fn plan_of(
         places: all.places,
         clashes,
         saturator,
+        sight,
     })
 }
 

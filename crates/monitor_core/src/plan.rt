@@ -1,6 +1,6 @@
 use consistency::Clashes;
 use dl_syntax::{Cq, Ontology};
-use saturate::Saturator;
+use saturate::{Saturator, Sight};
 use tcq_syntax::Query;
 
 /// What leaves ask, as it is asked of the facts that follow from a snapshot.
@@ -29,4 +29,6 @@ pub struct Plan {
     pub places: Vec<Vec<usize>>,
     pub clashes: Clashes,
     pub saturator: Saturator,
+    /// The predicates of the facts that the leaves and the clashes can see.
+    pub sight: Sight,
 }

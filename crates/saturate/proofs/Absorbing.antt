@@ -6,6 +6,7 @@ use Rattle.std.proofs.lemmas.List.Elements.{Contains-append_left, Contains-push,
 use Rattle.std.proofs.lemmas.Map.Views.{Contains-from_any}
 use Rattle.indexmap.specs.IndexSet.{insert_key}
 use Rattle.dl_syntax.specs.Exact.{IsExact}
+use Rattle.dl_syntax.proofs.AllByCons.{Contains-none, Contains-first, Contains-later, Contains-cons_cases}
 use Rattle.saturate.specs.Lists.{Absorbs}
 
 -- what an insertion leaves in a set
@@ -67,36 +68,88 @@ module _ {X : Type 0} where
       put : (x : X) → Contains (insert_key eq old key) x → Contains new x
       put x there = subst (λ (xs : List X). Contains xs x) (sym is) there
 
-  -- the image of one more element
-  pub Absorbs-image : {Y : Type 0} (h : Y → X) (eq : X → X → Bool) → IsExact eq → (ys : List Y) (y : Y) (old mid new : List X) → new ≡ insert_key eq mid (h y) → Absorbs (λ x. (z : Y) × Contains ys z × (x ≡ h z)) old mid → Absorbs (λ x. (z : Y) × Contains (ys ++ y ∷ []) z × (x ≡ h z)) old new
-  Absorbs-image {Y} h eq exact ys y old mid new is a =
-      Absorbs-same (λ x. ((z : Y) × Contains ys z × (x ≡ h z)) ⊎ (h y ≡ x)) (λ x. (z : Y) × Contains (ys ++ y ∷ []) z × (x ≡ h z)) old new to from
-      (Absorbs-both (λ x. (z : Y) × Contains ys z × (x ≡ h z)) (λ x. h y ≡ x) old mid new a (Absorbs-insert eq exact mid new (h y) is))
+  -- the same of what is looked at alone
+  module _ (S : X → Type 0) where
+    pub Absorbs-seen_same : (P Q : X → Type 0) (old new : List X) → ((x : X) → P x → Q x) → ((x : X) → Q x → P x) → Absorbs (λ x. P x × S x) old new → Absorbs (λ x. Q x × S x) old new
+    Absorbs-seen_same P Q old new to from a = Absorbs-same (λ x. P x × S x) (λ x. Q x × S x) old new (λ x h. (to x h.0, h.1)) (λ x h. (from x h.0, h.1)) a
+
+    pub Absorbs-seen_both : (P Q : X → Type 0) (old mid new : List X) → Absorbs (λ x. P x × S x) old mid → Absorbs (λ x. Q x × S x) mid new → Absorbs (λ x. (P x ⊎ Q x) × S x) old new
+    Absorbs-seen_both P Q old mid new a b = Absorbs-same (λ x. (P x × S x) ⊎ (Q x × S x)) (λ x. (P x ⊎ Q x) × S x) old new to from (Absorbs-both (λ x. P x × S x) (λ x. Q x × S x) old mid new a b)
+      where
+        to : (x : X) → (P x × S x) ⊎ (Q x × S x) → (P x ⊎ Q x) × S x
+        to x (inl h) = (inl h.0, h.1)
+        to x (inr h) = (inr h.0, h.1)
+
+        from : (x : X) → (P x ⊎ Q x) × S x → (P x × S x) ⊎ (Q x × S x)
+        from x (inl h, seen) = inl (h, seen)
+        from x (inr h, seen) = inr (h, seen)
+
+    -- the image of one more element
+    pub Absorbs-image : {Y : Type 0} (h : Y → X) (ys : List Y) (y : Y) (old mid new : List X) → Absorbs (λ x. (h y ≡ x) × S x) mid new → Absorbs (λ x. ((z : Y) × Contains ys z × (x ≡ h z)) × S x) old mid → Absorbs (λ x. ((z : Y) × Contains (ys ++ y ∷ []) z × (x ≡ h z)) × S x) old new
+    Absorbs-image {Y} h ys y old mid new last a =
+        Absorbs-seen_same (λ x. ((z : Y) × Contains ys z × (x ≡ h z)) ⊎ (h y ≡ x)) (λ x. (z : Y) × Contains (ys ++ y ∷ []) z × (x ≡ h z)) old new to from
+        (Absorbs-seen_both (λ x. (z : Y) × Contains ys z × (x ≡ h z)) (λ x. h y ≡ x) old mid new a last)
+      where
+        to : (x : X) → ((z : Y) × Contains ys z × (x ≡ h z)) ⊎ (h y ≡ x) → (z : Y) × Contains (ys ++ y ∷ []) z × (x ≡ h z)
+        to x (inl (z, there, same)) = (z, Contains-append_left ys (y ∷ []) z there, same)
+        to x (inr same) = (y, Contains-push ys y, sym same)
+
+        by : (x : X) (z : Y) → x ≡ h z → Contains ys z ⊎ (y ≡ z) → ((z : Y) × Contains ys z × (x ≡ h z)) ⊎ (h y ≡ x)
+        by x z same (inl there) = inl (z, there, same)
+        by x z same (inr last) = inr (subst (λ (w : Y). h w ≡ x) (sym last) (sym same))
+
+        from : (x : X) → (z : Y) × Contains (ys ++ y ∷ []) z × (x ≡ h z) → ((z : Y) × Contains ys z × (x ≡ h z)) ⊎ (h y ≡ x)
+        from x (z, there, same) = by x z same (Contains-push_cases ys y z there)
+
+    -- what each element of a list gives
+    pub Absorbs-each : {Y : Type 0} (P : Y → X → Type 0) (ys : List Y) (y : Y) (old mid new : List X) → Absorbs (λ x. ((z : Y) × Contains ys z × P z x) × S x) old mid → Absorbs (λ x. P y x × S x) mid new → Absorbs (λ x. ((z : Y) × Contains (ys ++ y ∷ []) z × P z x) × S x) old new
+    Absorbs-each {Y} P ys y old mid new a b =
+        Absorbs-seen_same (λ x. ((z : Y) × Contains ys z × P z x) ⊎ P y x) (λ x. (z : Y) × Contains (ys ++ y ∷ []) z × P z x) old new to from
+        (Absorbs-seen_both (λ x. (z : Y) × Contains ys z × P z x) (P y) old mid new a b)
+      where
+        to : (x : X) → ((z : Y) × Contains ys z × P z x) ⊎ P y x → (z : Y) × Contains (ys ++ y ∷ []) z × P z x
+        to x (inl (z, there, holds)) = (z, Contains-append_left ys (y ∷ []) z there, holds)
+        to x (inr holds) = (y, Contains-push ys y, holds)
+
+        by : (x : X) (z : Y) → P z x → Contains ys z ⊎ (y ≡ z) → ((z : Y) × Contains ys z × P z x) ⊎ P y x
+        by x z holds (inl there) = inl (z, there, holds)
+        by x z holds (inr last) = inr (subst (λ (w : Y). P w x) (sym last) holds)
+
+        from : (x : X) → (z : Y) × Contains (ys ++ y ∷ []) z × P z x → ((z : Y) × Contains ys z × P z x) ⊎ P y x
+        from x (z, there, holds) = by x z holds (Contains-push_cases ys y z there)
+
+    -- no element gives nothing
+    pub Absorbs-empty : {Y : Type 0} (P : Y → X → Type 0) (keys : List X) → Absorbs (λ x. ((z : Y) × Contains [] z × P z x) × S x) keys keys
+    Absorbs-empty {Y} P keys = Absorbs-none (λ x. ((z : Y) × Contains [] z × P z x) × S x) keys (λ x h. Contains-none h.0.0 h.0.1)
+
+  -- one element more
+  push_all : (old : List X) (key : X) → Absorbs (λ x. (key ≡ x) × Unit {0}) old (old ++ key ∷ [])
+  push_all old key = record { kept = λ x there. Contains-append_left old (key ∷ []) x there; sound = λ x there. by x (Contains-push_cases old key x there); complete = λ x h. subst (Contains (old ++ key ∷ [])) h.0 (Contains-push old key) } where
+    by : (x : X) → Contains old x ⊎ (key ≡ x) → Contains old x ⊎ ((key ≡ x) × Unit {0})
+    by x (inl there) = inl there
+    by x (inr same) = inr (same, tt)
+
+  -- some list has one element more, or the image of a list
+  pub with_one : (old : List X) (key : X) → (new : List X) × Absorbs (λ x. (key ≡ x) × Unit {0}) old new
+  with_one old key = (old ++ key ∷ [], push_all old key)
+
+  pub with_image : {Y : Type 0} (h : Y → X) (ys : List Y) (old : List X) → (new : List X) × Absorbs (λ x. ((z : Y) × Contains ys z × (x ≡ h z)) × Unit {0}) old new
+  with_image {Y} h [] old = (old, Absorbs-empty (λ x. Unit {0}) (λ z x. x ≡ h z) old)
+  with_image {Y} h (y ∷ ys) old =
+      let first : (mid : List X) × Absorbs (λ x. (h y ≡ x) × Unit {0}) old mid = with_one old (h y) in
+      let rest : (new : List X) × Absorbs (λ x. ((z : Y) × Contains ys z × (x ≡ h z)) × Unit {0}) first.0 new = with_image h ys first.0 in (
+        rest.0,
+        Absorbs-seen_same (λ x. Unit {0}) (λ x. (h y ≡ x) ⊎ ((z : Y) × Contains ys z × (x ≡ h z))) (λ x. (z : Y) × Contains (y ∷ ys) z × (x ≡ h z)) old rest.0 to from
+            (Absorbs-seen_both (λ x. Unit {0}) (λ x. h y ≡ x) (λ x. (z : Y) × Contains ys z × (x ≡ h z)) old first.0 rest.0 first.1 rest.1),
+      )
     where
-      to : (x : X) → ((z : Y) × Contains ys z × (x ≡ h z)) ⊎ (h y ≡ x) → (z : Y) × Contains (ys ++ y ∷ []) z × (x ≡ h z)
-      to x (inl (z, there, same)) = (z, Contains-append_left ys (y ∷ []) z there, same)
-      to x (inr same) = (y, Contains-push ys y, sym same)
+      to : (x : X) → (h y ≡ x) ⊎ ((z : Y) × Contains ys z × (x ≡ h z)) → (z : Y) × Contains (y ∷ ys) z × (x ≡ h z)
+      to x (inl same) = (y, Contains-first y ys, sym same)
+      to x (inr (z, there, same)) = (z, Contains-later y ys z there, same)
 
-      by : (x : X) (z : Y) → x ≡ h z → Contains ys z ⊎ (y ≡ z) → ((z : Y) × Contains ys z × (x ≡ h z)) ⊎ (h y ≡ x)
-      by x z same (inl there) = inl (z, there, same)
-      by x z same (inr last) = inr (subst (λ (w : Y). h w ≡ x) (sym last) (sym same))
+      by : (x : X) (z : Y) → x ≡ h z → (y ≡ z) ⊎ Contains ys z → (h y ≡ x) ⊎ ((z : Y) × Contains ys z × (x ≡ h z))
+      by x z same (inl here) = inl (subst (λ (w : Y). h w ≡ x) (sym here) (sym same))
+      by x z same (inr there) = inr (z, there, same)
 
-      from : (x : X) → (z : Y) × Contains (ys ++ y ∷ []) z × (x ≡ h z) → ((z : Y) × Contains ys z × (x ≡ h z)) ⊎ (h y ≡ x)
-      from x (z, there, same) = by x z same (Contains-push_cases ys y z there)
-
-  -- what each element of a list gives
-  pub Absorbs-each : {Y : Type 0} (P : Y → X → Type 0) (ys : List Y) (y : Y) (old mid new : List X) → Absorbs (λ x. (z : Y) × Contains ys z × P z x) old mid → Absorbs (P y) mid new → Absorbs (λ x. (z : Y) × Contains (ys ++ y ∷ []) z × P z x) old new
-  Absorbs-each {Y} P ys y old mid new a b =
-      Absorbs-same (λ x. ((z : Y) × Contains ys z × P z x) ⊎ P y x) (λ x. (z : Y) × Contains (ys ++ y ∷ []) z × P z x) old new to from
-      (Absorbs-both (λ x. (z : Y) × Contains ys z × P z x) (P y) old mid new a b)
-    where
-      to : (x : X) → ((z : Y) × Contains ys z × P z x) ⊎ P y x → (z : Y) × Contains (ys ++ y ∷ []) z × P z x
-      to x (inl (z, there, holds)) = (z, Contains-append_left ys (y ∷ []) z there, holds)
-      to x (inr holds) = (y, Contains-push ys y, holds)
-
-      by : (x : X) (z : Y) → P z x → Contains ys z ⊎ (y ≡ z) → ((z : Y) × Contains ys z × P z x) ⊎ P y x
-      by x z holds (inl there) = inl (z, there, holds)
-      by x z holds (inr last) = inr (subst (λ (w : Y). P w x) (sym last) holds)
-
-      from : (x : X) → (z : Y) × Contains (ys ++ y ∷ []) z × P z x → ((z : Y) × Contains ys z × P z x) ⊎ P y x
-      from x (z, there, holds) = by x z holds (Contains-push_cases ys y z there)
+      from : (x : X) → (z : Y) × Contains (y ∷ ys) z × (x ≡ h z) → (h y ≡ x) ⊎ ((z : Y) × Contains ys z × (x ≡ h z))
+      from x (z, there, same) = by x z same (Contains-cons_cases y ys z there)

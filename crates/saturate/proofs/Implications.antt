@@ -170,13 +170,16 @@ plain_implied incs (fact.Role p a b) g (x, y) (inl (s, above, is)) = subst HasNo
 plain_implied incs (fact.Role p a b) g (x, y) (inr (inl (c, above, is))) = subst HasNoNull (sym is) x
 plain_implied incs (fact.Role p a b) g (x, y) (inr (inr (c, above, is))) = subst HasNoNull (sym is) y
 
+pub implied_plain : (incs : List Inclusion) (facts : List Fact) → All HasNoNull facts → (g : Fact) → IsImplied incs facts g → HasNoNull g
+implied_plain incs facts plain g (f, there, implies) = plain_implied incs f g (All-contains HasNoNull facts f plain there) implies
+
 module _ (incs : List Inclusion) (facts keys : List Fact) (plain : All HasNoNull facts) (absorbed : Absorbs (IsImplied incs facts) [] keys) where
   from_sources : (g : Fact) → Contains [] g ⊎ IsImplied incs facts g → IsImplied incs facts g
   from_sources g (inl none) = absurd (Contains-none g none)
   from_sources g (inr implied) = implied
 
-  pub key_plain : (g : Fact) → Contains keys g → HasNoNull g
-  key_plain g there = let k = from_sources g (absorbed.sound g there) in plain_implied incs k.0 g (All-contains HasNoNull facts k.0 plain k.1) k.2
+  key_plain : (g : Fact) → Contains keys g → HasNoNull g
+  key_plain g there = implied_plain incs facts plain g (from_sources g (absorbed.sound g there))
 
   -- what all facts imply is what some run holds
   pub implied_is_saturation : IsSaturation incs facts keys

@@ -6,3 +6,4 @@ pub mod Implications
 pub mod ListedAbove
 pub mod FactImplied
 pub mod Kept
+pub mod Sighted

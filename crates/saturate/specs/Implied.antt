@@ -1,5 +1,5 @@
 -- What one fact implies of its own elements.
-use Rattle.std.specs.Prelude.{◌≡◌, ◌⊎◌, List}
+use Rattle.std.specs.Prelude.{◌≡◌, ◌⊎◌, List, []}
 use Rattle.std.specs.List.{Contains}
 use Rattle.dl_syntax.specs.declared.names.ConceptId.{ConceptId}
 use Rattle.dl_syntax.specs.declared.facts.Element.{Element}
@@ -10,6 +10,7 @@ use Rattle.dl_syntax.specs.declared.ontology.Basic.{Basic}
 use Rattle.dl_syntax.specs.declared.ontology.Basic.TheVariants as basic
 use Rattle.dl_syntax.specs.declared.ontology.Inclusion.{Inclusion}
 use Rattle.dl_syntax.specs.Facts.{role_fact}
+use Rattle.saturate.specs.Lists.{Absorbs}
 use Rattle.saturate.specs.Above.{IsAbove, IsAboveRole, forward, backward}
 
 -- the fact puts the element into one of the concepts
@@ -36,3 +37,7 @@ Implies inclusions (fact.Role p a b) g = IsPairAbove inclusions (forward p.0) a 
 -- some of the facts implies it
 abbrev pub IsImplied : List Inclusion → List Fact → Fact → Type 0
 IsImplied inclusions facts g = (f : Fact) × Contains facts f × Implies inclusions f g
+
+-- for each list of facts there is a list of exactly what they imply
+abbrev pub HasAllImplied : List Inclusion → Type 0
+HasAllImplied inclusions = (facts : List Fact) → (keys : List Fact) × Absorbs (IsImplied inclusions facts) [] keys

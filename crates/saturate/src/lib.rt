@@ -8,9 +8,11 @@ mod graph;
 pub mod laws;
 mod lists;
 mod saturator;
+mod sight;
 mod tables;
 
 pub use saturator::{Saturator, saturate};
+pub use sight::{Sight, see};
 
 #[cfg(test)]
 mod tests;

@@ -3,10 +3,12 @@ ghost use Rattle.std.specs.Prelude.{◌≡◌, [], IfOk, OnOk};
 ghost use Rattle.dl_syntax.specs.Facts.{role_fact as fact_of_role};
 ghost use Rattle.query_unify.specs.Saturation.{IsSaturation};
 ghost use Rattle.saturate.specs.Lists.{Absorbs};
-ghost use Rattle.saturate.specs.Implied.{IsMembership, IsPairing, Implies, IsImplied};
+ghost use Rattle.saturate.specs.Implied.{IsMembership, IsPairing, Implies, IsImplied, HasAllImplied};
+ghost use Rattle.saturate.specs.Sight.{Seen, IsSeenSaturation};
 
 use crate::graph::{Graph, Place, Scope};
 use crate::lists::list_at;
+use crate::sight::Sight;
 use crate::tables::{concept_table, role_table};
 use dl_syntax::{ConceptId, Element, Fact, Inclusion, Kind, Memory, Ontology, Role, Snapshot};
 use indexmap::IndexSet;
@@ -47,31 +49,44 @@ fn role_fact(role: &Role, first: Element, second: Element) -> Fact
     }
 }
 
-/// Adds that the element is in each of the concepts.
+/// Adds the fact, if it is looked at.
+fn add(found: &mut IndexSet<Fact>, sight: &Sight, fact: Fact) -> Result<(), Memory>
+    ensures { OnOk result (Absorbs (Seen sight.now (λ other. fact ≡ other)) found.old.keys found.new.keys) }
+{
+    if !sight.sees(&fact) {
+        return Ok(());
+    }
+    found.insert(fact)?;
+    Ok(())
+}
+
+/// Adds that the element is in each of the concepts that are looked at.
 fn add_memberships(
     found: &mut IndexSet<Fact>,
+    sight: &Sight,
     concepts: &[ConceptId],
     element: Element,
 ) -> Result<(), Memory>
-    ensures { OnOk result (Absorbs (IsMembership concepts.now element) found.old.keys found.new.keys) }
+    ensures { OnOk result (Absorbs (Seen sight.now (IsMembership concepts.now element)) found.old.keys found.new.keys) }
 {
     for concept in concepts {
-        found.insert(Fact::Concept(*concept, element))?;
+        add(found, sight, Fact::Concept(*concept, element))?;
     }
     Ok(())
 }
 
-/// Adds that the two elements are a pair of each of the roles.
+/// Adds that the two elements are a pair of each of the roles that are looked at.
 fn add_pairings(
     found: &mut IndexSet<Fact>,
+    sight: &Sight,
     roles: &[Role],
     first: Element,
     second: Element,
 ) -> Result<(), Memory>
-    ensures { OnOk result (Absorbs (IsPairing roles.now first second) found.old.keys found.new.keys) }
+    ensures { OnOk result (Absorbs (Seen sight.now (IsPairing roles.now first second)) found.old.keys found.new.keys) }
 {
     for role in roles {
-        found.insert(role_fact(role, first, second))?;
+        add(found, sight, role_fact(role, first, second))?;
     }
     Ok(())
 }
@@ -99,41 +114,83 @@ impl Saturator {
         })
     }
 
-    /// Adds what the fact implies.
-    fn add_implied(&self, found: &mut IndexSet<Fact>, fact: &Fact) -> Result<(), Memory>
-        ensures { OnOk result (Absorbs (Implies self.now fact.now) found.old.keys found.new.keys) }
+    /// Adds what is looked at of what the fact implies.
+    fn add_implied(
+        &self,
+        found: &mut IndexSet<Fact>,
+        sight: &Sight,
+        fact: &Fact,
+    ) -> Result<(), Memory>
+        ensures { OnOk result (Absorbs (Seen sight.now (Implies self.now fact.now)) found.old.keys found.new.keys) }
     {
-        found.insert(*fact)?;
+        add(found, sight, *fact)?;
         match *fact {
             Fact::Concept(id, element) => {
-                add_memberships(found, list_at(self.members.as_slice(), id.0), element)
+                add_memberships(
+                    found,
+                    sight,
+                    list_at(self.members.as_slice(), id.0),
+                    element,
+                )
             }
             Fact::Role(id, first, second) => {
-                add_pairings(found, list_at(self.roles.as_slice(), id.0), first, second)?;
-                add_memberships(found, list_at(self.firsts.as_slice(), id.0), first)?;
-                add_memberships(found, list_at(self.seconds.as_slice(), id.0), second)
+                add_pairings(
+                    found,
+                    sight,
+                    list_at(self.roles.as_slice(), id.0),
+                    first,
+                    second,
+                )?;
+                add_memberships(found, sight, list_at(self.firsts.as_slice(), id.0), first)?;
+                add_memberships(found, sight, list_at(self.seconds.as_slice(), id.0), second)
             }
         }
     }
 
-    /// What the facts imply.
-    fn implied(&self, alloc: Global, facts: &[Fact]) -> Result<IndexSet<Fact>, Memory>
-        ensures { IfOk result (λ found. Absorbs (IsImplied self.now facts.now) [] found.keys) }
+    /// What is looked at of what the facts imply.
+    fn implied(
+        &self,
+        alloc: Global,
+        sight: &Sight,
+        facts: &[Fact],
+    ) -> Result<IndexSet<Fact>, Memory>
+        ensures { IfOk result (λ found. Absorbs (Seen sight.now (IsImplied self.now facts.now)) [] found.keys) }
     {
         let mut found = IndexSet::with_capacity(alloc, facts.len())?;
         for fact in facts {
-            self.add_implied(&mut found, fact)?;
+            self.add_implied(&mut found, sight, fact)?;
         }
         Ok(found)
     }
 
-    /// Exactly the facts over individuals that some run of the snapshot holds, each once, in an order of the call's choice: one look-up for each fact, and an insertion for each that it implies.
+    /// Some list has exactly what the facts imply: the tables say so, and it need not be made.
+    fn whole_exists(&self)
+        ensures { HasAllImplied self.now }
+    {
+        let _inclusions = &self.inclusions;
+    }
+
+    /// Exactly the facts over individuals that some run of the snapshot holds and whose predicates are looked at, each once, in an order of the call's choice: one look-up for each fact, and an insertion for each that it implies and that is looked at.
+    pub fn saturate_seen(
+        &self,
+        alloc: Global,
+        sight: &Sight,
+        snapshot: &Snapshot,
+    ) -> Result<Snapshot, Memory>
+        ensures { IfOk result (IsSeenSaturation self.now sight.now snapshot.now) }
+    {
+        self.whole_exists();
+        let found = self.implied(alloc, sight, snapshot.facts())?;
+        let facts = Vec::from_slice(alloc, found.as_slice())?;
+        Ok(Snapshot::new(facts))
+    }
+
+    /// Exactly the facts over individuals that some run of the snapshot holds, each once, in an order of the call's choice.
     pub fn saturate(&self, alloc: Global, snapshot: &Snapshot) -> Result<Snapshot, Memory>
         ensures { IfOk result (IsSaturation self.now snapshot.now) }
     {
-        let found = self.implied(alloc, snapshot.facts())?;
-        let facts = Vec::from_slice(alloc, found.as_slice())?;
-        Ok(Snapshot::new(facts))
+        let sight = Sight::all(alloc);
+        self.saturate_seen(alloc, &sight, snapshot)
     }
 }
 

@@ -6,3 +6,4 @@ pub mod MergedRows
 pub mod GatheredRows
 pub mod Parts
 pub mod AskedQueries
+pub mod Alike

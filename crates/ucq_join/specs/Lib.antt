@@ -4,3 +4,4 @@ pub mod Gathered
 pub mod Partial
 pub mod Split
 pub mod Asked
+pub mod Alike

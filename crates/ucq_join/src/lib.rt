@@ -9,6 +9,7 @@
 mod bindings;
 mod gathered;
 mod join;
+pub mod laws;
 mod merge;
 mod order;
 mod split;

@@ -6,6 +6,7 @@ use Rattle.consistency.specs.Least.{IsFirstClash, IsLeastClash, IsConsistentUnde
 use Rattle.monitor_core.specs.Keeping.{Monitored}
 use Rattle.monitor_core.specs.Answering.{AreOver, AreRowsOf}
 use Rattle.monitor_core.specs.Standing.{Stands, Accepts, IsNext, setting_of}
+use Rattle.monitor_core.proofs.Seeing.{agree_on_clashes}
 use Rattle.monitor_core.proofs.Accepting.{over_setting}
 use Rattle.monitor_core.proofs.Accepting.{after, still_monitored, next_rows, accepts}
 use Rattle.monitor_core.proofs.monitor.Monitor.accept.Goals as goal
@@ -23,7 +24,7 @@ unfolding setting_of
 returns-in-Some-clause-contradiction c = λ number is.
     let o = c.self.inside.plan.ontology in
     let same : c.in-Some.number ≡ number = cc in
-    let least : IsLeastClash o c.args.snapshot.now number = subst (IsLeastClash o c.args.snapshot.now) same (subst (IsFirstClash o c.args.snapshot.now) c.in-Some.is (c.in_ok-number.ensures c.self.inside.plan.ontology c.args.snapshot.now c.self.invariant.plan.clashes_for (over_setting c.self.inside.plan c.self.inside.state c.args.self.now c.args.snapshot.now c.self.view_is c.self.invariant c.requires) c.in_ok-facts.ensures)) in
+    let least : IsLeastClash o c.args.snapshot.now number = subst (IsLeastClash o c.args.snapshot.now) same (subst (IsFirstClash o c.args.snapshot.now) c.in-Some.is (c.in_ok-number.ensures c.self.inside.plan.ontology c.args.snapshot.now c.in_ok-facts.ensures.0 c.self.invariant.plan.clashes_for (over_setting c.self.inside.plan c.self.inside.state c.args.self.now c.args.snapshot.now c.self.view_is c.self.invariant c.requires) c.in_ok-facts.ensures.1 (agree_on_clashes c.self.inside.plan.sight c.in_ok-facts.ensures.0 c.in_ok-facts.facts c.in_ok-facts.ensures.2 c.self.inside.plan.clashes c.self.invariant.plan.sees_clashes))) in
     subst (λ (m : Monitored). IsLeastClash (setting_of m).ontology c.args.snapshot.now number) c.self.view_is least
 
 pub invariant_of-self : goal.invariant_of-self
@@ -42,7 +43,7 @@ pub returns-clause-consistent : goal.returns-clause-consistent
 unfolding setting_of
 returns-clause-consistent c =
     subst (λ (m : Monitored). IsConsistentUnder (setting_of m).ontology c.args.snapshot.now) c.self.view_is
-    (none_first c.self.inside.plan.ontology c.args.snapshot.now c.in_ok-number.field-0 (λ number is. c.in_default.not-Some number is) (c.in_ok-number.ensures c.self.inside.plan.ontology c.args.snapshot.now c.self.invariant.plan.clashes_for (over_setting c.self.inside.plan c.self.inside.state c.args.self.now c.args.snapshot.now c.self.view_is c.self.invariant c.requires) c.in_ok-facts.ensures))
+    (none_first c.self.inside.plan.ontology c.args.snapshot.now c.in_ok-number.field-0 (λ number is. c.in_default.not-Some number is) (c.in_ok-number.ensures c.self.inside.plan.ontology c.args.snapshot.now c.in_ok-facts.ensures.0 c.self.invariant.plan.clashes_for (over_setting c.self.inside.plan c.self.inside.state c.args.self.now c.args.snapshot.now c.self.view_is c.self.invariant c.requires) c.in_ok-facts.ensures.1 (agree_on_clashes c.self.inside.plan.sight c.in_ok-facts.ensures.0 c.in_ok-facts.facts c.in_ok-facts.ensures.2 c.self.inside.plan.clashes c.self.invariant.plan.sees_clashes)))
 
 pub returns-clause-ok : goal.returns-clause-ok
 returns-clause-ok c = λ history stands.

@@ -45,7 +45,7 @@ returns c =
     if_all_ok _ _ _ _ _ (λ r fits counted rows steps facts other answers there.
     let at : slice_get plan.queries.items c.args.place ≡ Some query = query_at plan c.requires.plan c.args.place c.requires.within query c.index-query.ensures in
     let same : query ≡ other = cc in
-    subst (λ (q : Tcq). Advances plan.ontology q facts c.args.kept.now r.0 r.1) same
+    subst (λ (q : Tcq). Advances plan.ontology plan.sight q facts c.args.kept.now r.0 r.1) same
     (advances plan c.requires.plan c.args.place c.requires.within query c.index-query.ensures facts found
     (answered_at plan c.requires.plan c.args.place c.requires.within query c.index-query.ensures c.index-places-place.result (read_in c.as_slice-places.result.now plan.places.items c.args.place c.index-places-place.result c.as_slice-places.ensures.value c.index-places-place.is) facts c.args.relations.now found answers stand)
     c.args.kept.now r.0 r.1 fits counted rows steps))

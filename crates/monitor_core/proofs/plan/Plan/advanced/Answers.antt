@@ -44,10 +44,10 @@ loop-place-preserved c =
     let leaves = c.args.self.now.leaves.items in
     let found : AllZip (AreUnionAnswers facts) leaves c.in_ok-relations.relations.items = subst (λ (ls : List Leaf). AllZip (AreUnionAnswers facts) ls c.in_ok-relations.relations.items) c.as_slice.ensures.value c.in_ok-relations.ensures in
     let answers : AllZip (AreUnionAnswers facts) leaves c.as_slice-known.result.now = subst (AllZip (AreUnionAnswers facts) leaves) (sym c.as_slice-known.ensures.value) found in
-    let more : AllAdvance o (take (i + 1) queries) facts (take (i + 1) kept) (c.loop-place.new.items ++ c.in_ok-k.k ∷ []) (c.loop-place.answers.items ++ c.in_ok-k.rows ∷ []) =
-    all_advance_more o facts queries kept c.loop-place.new.items c.loop-place.answers.items i query c.index-kept-place.result c.in_ok-k.k c.in_ok-k.rows within c.loop-place-test.true there c.index-kept-place.is c.loop-place.invariant (c.in_ok-k.ensures facts query answers there) in
-    subst (λ (ks : List Kept). AllAdvance o (take (i + 1) queries) facts (take (i + 1) kept) ks c.push-in-loop-place.new.self.items) (sym c.in_ok-push.ensures.items)
-    (subst (λ (rs : List Relation). AllAdvance o (take (i + 1) queries) facts (take (i + 1) kept) (c.loop-place.new.items ++ c.in_ok-k.k ∷ []) rs) (sym c.in_ok-push-2.ensures.items) more)
+    let more : AllAdvance o c.args.self.now.sight (take (i + 1) queries) facts (take (i + 1) kept) (c.loop-place.new.items ++ c.in_ok-k.k ∷ []) (c.loop-place.answers.items ++ c.in_ok-k.rows ∷ []) =
+    all_advance_more o c.args.self.now.sight facts queries kept c.loop-place.new.items c.loop-place.answers.items i query c.index-kept-place.result c.in_ok-k.k c.in_ok-k.rows within c.loop-place-test.true there c.index-kept-place.is c.loop-place.invariant (c.in_ok-k.ensures facts query answers there) in
+    subst (λ (ks : List Kept). AllAdvance o c.args.self.now.sight (take (i + 1) queries) facts (take (i + 1) kept) ks c.push-in-loop-place.new.self.items) (sym c.in_ok-push.ensures.items)
+    (subst (λ (rs : List Relation). AllAdvance o c.args.self.now.sight (take (i + 1) queries) facts (take (i + 1) kept) (c.loop-place.new.items ++ c.in_ok-k.k ∷ []) rs) (sym c.in_ok-push-2.ensures.items) more)
 
 pub returns : goal.returns
 returns c =
@@ -59,5 +59,5 @@ returns c =
     let long : length kept ≡ length queries = AllZip-long (λ (q : Tcq) (k : Kept). Fits q (length o.individuals) k) queries kept c.requires.fits in
     let all : take i queries ≡ queries = take_all i queries (omega (arith, c.loop-place-test.false)) in
     let both : take i kept ≡ kept = take_all i kept (omega (arith, c.loop-place-test.false)) in
-    subst (λ (qs : List Tcq). AllAdvance o qs facts kept c.loop-place.new.items c.loop-place.answers.items) all
-    (subst (λ (ks : List Kept). AllAdvance o (take i queries) facts ks c.loop-place.new.items c.loop-place.answers.items) both c.loop-place.invariant)
+    subst (λ (qs : List Tcq). AllAdvance o c.args.self.now.sight qs facts kept c.loop-place.new.items c.loop-place.answers.items) all
+    (subst (λ (ks : List Kept). AllAdvance o c.args.self.now.sight (take i queries) facts ks c.loop-place.new.items c.loop-place.answers.items) both c.loop-place.invariant)

@@ -1,13 +1,6 @@
-use Rattle.std.proofs.Common.{◌∙◌}
-use Rattle.saturate.proofs.FactImplied.{made_snapshot, made_saturation}
+use Rattle.perfect_ref.proofs.Reached.{if_ok_weaker}
+use Rattle.saturate.proofs.FactImplied.{seen_by_all}
 use Rattle.saturate.proofs.saturator.Saturator.saturate.Goals as goal
 
-pub new-requires : goal.new-requires
-new-requires c =
-    made_snapshot c.args.self.now c.args.snapshot.now c.facts.result.now c.in_ok-found.found.keys c.in_ok-facts.facts.items c.facts.ensures.same c.facts.ensures.sound c.in_ok-found.ensures c.as_slice.ensures.unique
-    (c.in_ok-facts.ensures.items ∙ c.as_slice.ensures.keys)
-
 pub returns : goal.returns
-returns c =
-    made_saturation c.args.self.now c.args.snapshot.now c.facts.result.now c.in_ok-found.found.keys c.new.result c.facts.ensures.same c.facts.ensures.sound c.in_ok-found.ensures
-    (c.new.ensures ∙ (c.in_ok-facts.ensures.items ∙ c.as_slice.ensures.keys))
+returns c = if_ok_weaker _ _ (λ facts seen. seen_by_all c.args.self.now c.all-sight.result c.args.snapshot.now facts c.all-sight.ensures seen) c.saturate_seen.result c.saturate_seen.ensures
