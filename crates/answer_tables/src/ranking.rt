@@ -28,12 +28,9 @@ impl Model for Ranking {
     ghost invariant = { λ r. RiseFrom 0 r.runs.items × (end_from 0 r.runs.items + length r.bytes.items < 2 ^ 64) };
 }
 
-/// How many ranks a table has at least that is packed: below, runs take little room.
-const MANY: u64 = 65_536;
-
-/// Whether there are many ranks, and so many runs that to read them costs as much as to read a byte for each rank.
+/// Whether runs take more room than a byte for each rank.
 pub fn is_dense(runs: usize, ranks: u64) -> bool {
-    ranks >= MANY && runs as u64 > ranks / 2
+    runs as u64 > 8 + ranks / 8
 }
 
 /// The runs, and one more for each byte.

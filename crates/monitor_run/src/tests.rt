@@ -1,7 +1,6 @@
 ghost use Rattle.std.specs.Prelude.{◌≤◌};
 
 mod following;
-mod forms;
 mod queries;
 mod rewriting;
 

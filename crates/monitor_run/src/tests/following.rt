@@ -50,19 +50,3 @@ fn contradictions_are_refused(rt: HostRuntime) -> Result<(), Fail> {
     );
     Ok(())
 }
-
-#[test]
-fn a_leaf_that_stands_twice_answers_twice(rt: HostRuntime) -> Result<(), Fail> {
-    let alloc = rt.alloc();
-    let (status, report) = answered(
-        alloc,
-        b"query f (?x) = [B(?x)] & once [B(?x)] ; query g (?x) = prev [B(?x)] ;",
-        b"snap A(a)\nsnap\n",
-    )?;
-    assert_eq!(rt; status, Status::Done);
-    assert_eq!(rt;
-        report.as_slice(),
-        b"line 1 accepted 1\nanswer f a\nline 2 accepted 2\nanswer g a\nend accepted 2 refused 0\n".as_slice()
-    );
-    Ok(())
-}
