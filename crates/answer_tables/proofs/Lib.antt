@@ -18,3 +18,4 @@ mod TupleRows
 mod Two
 mod Listing
 mod LinkLists
+mod Rows

@@ -10,3 +10,4 @@ pub mod Substituting
 pub mod Spreading
 pub mod Marks
 pub mod Holding
+pub mod Made

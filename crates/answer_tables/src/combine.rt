@@ -135,7 +135,7 @@ fn combine_ranks(
 }
 
 /// The table of the combined chains. Where one table has one chain, no rank is read.
-fn combine(
+pub(crate) fn combine(
     alloc: Global,
     operation: Operation,
     a: &Table,

@@ -11,8 +11,8 @@ use std::marker::Model;
 /// Numbers for the ranks below an end, seen as runs. Where runs are short, a byte for each rank tells a run of one rank.
 #[derive(Drop)]
 pub struct Ranking {
-    runs: Vec<Run>,
-    bytes: Vec<u8>,
+    pub(crate) runs: Vec<Run>,
+    pub(crate) bytes: Vec<u8>,
     packed: bool,
 }
 

@@ -84,7 +84,7 @@ fn substituted_links(
 }
 
 /// Whether no chain has a node: each holds at every set or at none.
-fn have_no_nodes(links: &[Link]) -> bool
+pub(crate) fn have_no_nodes(links: &[Link]) -> bool
     ensures { result ≡ true → All HasNoNode links.now }
 {
     for link in links {
@@ -119,7 +119,7 @@ fn stored_links(alloc: Global, links: &[Link], store: &mut Store) -> Result<Vec<
 }
 
 /// An equal table, whose links are in the store.
-fn stored_table(alloc: Global, table: &Table, store: &mut Store) -> Result<Table, Memory>
+pub(crate) fn stored_table(alloc: Global, table: &Table, store: &mut Store) -> Result<Table, Memory>
     ensures same { IfOk result (λ t. t ≡ table.now) }
     ensures stored { IfOk result (λ t. LinksAreIn t store.new) }
     ensures grown { Extends store.old store.new }

@@ -6,6 +6,7 @@ use antichains::from_sets;
 use dl_syntax::{IndId, Tuples};
 use formula_store::{Link, Store};
 use std::alloc::Global;
+use std::rc::Rc;
 
 // A link of the chain of these sets.
 fn link(alloc: Global, sets: &[u8]) -> Result<Link, Memory> {
@@ -236,4 +237,105 @@ fn combines_short_runs(rt: HostRuntime) {
             }
         }
     }
+}
+
+// The table over triples of four individuals that holds where a node does.
+fn granted(alloc: Global) -> Result<Table, Memory>
+    ensures slots { IfOk result (λ t. t.slots ≡ 4) }
+    ensures arity { IfOk result (λ t. t.arity ≡ 3) }
+{
+    let chain = link(alloc, &[1])?;
+    fill(alloc, 4, 3, &chain)
+}
+
+// Whether the tables are equal, and share their ranks.
+fn share(a: &Table, b: &Table) -> bool {
+    a.is_same(b) && Rc::ptr_eq(&a.ranks, &b.ranks)
+}
+
+#[test]
+fn shares_what_either_gave(rt: HostRuntime) {
+    let a = last_is_zero(rt.alloc()).expect(&rt, "memory");
+    let b = middle_is_zero(rt.alloc()).expect(&rt, "memory");
+    let mut made = Made::new(rt.alloc());
+    let mut store = Store::new(rt.alloc());
+    let once = made
+        .either(2, rt.alloc(), &a, &b, &mut store)
+        .expect(&rt, "memory");
+    assert!(rt; is_true(&once, 1, 0, 1));
+    assert!(rt; is_true(&once, 1, 1, 0));
+    let mut store = Store::new(rt.alloc());
+    let again = made
+        .either(2, rt.alloc(), &a, &b, &mut store)
+        .expect(&rt, "memory");
+    assert!(rt; share(&once, &again));
+    let other = made
+        .either(2, rt.alloc(), &a, &a, &mut store)
+        .expect(&rt, "memory");
+    assert!(rt; !is_true(&other, 1, 0, 1));
+    assert!(rt; is_true(&other, 1, 1, 0));
+}
+
+#[test]
+fn shares_what_both_gave(rt: HostRuntime) {
+    let a = last_is_zero(rt.alloc()).expect(&rt, "memory");
+    let b = middle_is_zero(rt.alloc()).expect(&rt, "memory");
+    let mut made = Made::new(rt.alloc());
+    let mut store = Store::new(rt.alloc());
+    let once = made
+        .both(0, rt.alloc(), &a, &b, &mut store)
+        .expect(&rt, "memory");
+    assert!(rt; !is_true(&once, 1, 0, 1));
+    assert!(rt; is_true(&once, 1, 0, 0));
+    let again = made
+        .both(0, rt.alloc(), &a, &b, &mut store)
+        .expect(&rt, "memory");
+    assert!(rt; share(&once, &again));
+    let other = made
+        .either(0, rt.alloc(), &a, &b, &mut store)
+        .expect(&rt, "memory");
+    assert!(rt; is_true(&other, 1, 0, 1));
+}
+
+#[test]
+fn shares_what_values_gave(rt: HostRuntime) {
+    let table = granted(rt.alloc()).expect(&rt, "memory");
+    let value = [last_is_zero(rt.alloc()).expect(&rt, "memory")];
+    let another = [middle_is_zero(rt.alloc()).expect(&rt, "memory")];
+    let mut made = Made::new(rt.alloc());
+    let mut store = Store::new(rt.alloc());
+    let once = made
+        .substituted(1, rt.alloc(), &table, &value, &mut store)
+        .expect(&rt, "memory");
+    assert!(rt; is_true(&once, 1, 1, 0));
+    let again = made
+        .substituted(1, rt.alloc(), &table, &value, &mut store)
+        .expect(&rt, "memory");
+    assert!(rt; share(&once, &again));
+    let other = made
+        .substituted(1, rt.alloc(), &table, &another, &mut store)
+        .expect(&rt, "memory");
+    assert!(rt; !is_true(&other, 1, 1, 0));
+    assert!(rt; is_true(&other, 1, 0, 1));
+}
+
+#[test]
+fn shares_what_rows_gave(rt: HostRuntime) {
+    let rows = zero_row(rt.alloc()).expect(&rt, "memory");
+    let more = all_rows(rt.alloc()).expect(&rt, "memory");
+    let mut made = Made::new(rt.alloc());
+    let mut store = Store::new(rt.alloc());
+    let once = made
+        .marked(0, rt.alloc(), 4, 3, &[2], &rows, &mut store)
+        .expect(&rt, "memory");
+    assert!(rt; is_true(&once, 1, 1, 0));
+    let again = made
+        .marked(0, rt.alloc(), 4, 3, &[2], &rows, &mut store)
+        .expect(&rt, "memory");
+    assert!(rt; share(&once, &again));
+    let other = made
+        .marked(0, rt.alloc(), 4, 3, &[2], &more, &mut store)
+        .expect(&rt, "memory");
+    assert!(rt; is_true(&other, 1, 1, 2));
+    assert!(rt; !is_true(&other, 1, 1, 3));
 }

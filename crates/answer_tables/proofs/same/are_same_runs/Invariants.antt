@@ -1,0 +1,7 @@
+use Rattle.std.proofs.Common.{ℕ, ◌≡◌, ◌<◌}
+use Rattle.std.specs.Prelude.{slice_index_or}
+use Rattle.answer_tables.specs.declared.run.Run.{Run}
+use Rattle.answer_tables.proofs.same.are_same_runs.Given as goal
+
+abbrev pub invariant-loop-i : goal.invariant-loop-i
+invariant-loop-i l = (k : ℕ) (d : Run) → k < l.i → slice_index_or l.a k d ≡ slice_index_or l.b k d
