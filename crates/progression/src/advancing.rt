@@ -15,7 +15,7 @@ use crate::keep::kept_tables;
 use crate::kept::Kept;
 use crate::step::node_tables;
 use crate::weak::weak_set;
-use answer_tables::Table;
+use answer_tables::{Made, Table};
 use dl_syntax::Tuples;
 use formula_store::Store;
 use std::alloc::Global;
@@ -28,6 +28,7 @@ fn query_tables(
     slots: u32,
     kept: &Kept,
     leaves: &[Tuples],
+    made: &mut Made,
     store: &mut Store,
 ) -> Result<Vec<Table>, Memory>
     requires fits { Fits query.now slots kept.now }
@@ -45,6 +46,7 @@ fn query_tables(
         kept.count == 0,
         kept.tables.as_slice(),
         leaves,
+        made,
         store,
     )
 }
@@ -62,13 +64,15 @@ fn root_rows(alloc: Global, query: &Query, slots: u32, tables: &[Table]) -> Resu
 
 /// What is kept of a query after one more snapshot, and the query's answers then. `leaves` are the
 /// certain answers of the query's leaves at the snapshot, in the order of the table. The numbers
-/// of a tuple are below `slots`.
+/// of a tuple are below `slots`. `made` is what was made of the query before: tables made of the
+/// same again are shared.
 pub fn advance(
     alloc: Global,
     query: &Query,
     slots: u32,
     kept: &Kept,
     leaves: &[Tuples],
+    made: &mut Made,
     store: &mut Store,
 ) -> Result<(Kept, Tuples), Memory>
     requires fits { Fits query.now slots kept.now }
@@ -81,7 +85,7 @@ pub fn advance(
     ensures stored { IfOk result (λ r. All (λ entry. LinksAreIn entry.1 store.new) r.0.tables.items) }
     ensures grown { Extends store.old store.new }
 {
-    let tables = query_tables(alloc, query, slots, kept, leaves, store)?;
+    let tables = query_tables(alloc, query, slots, kept, leaves, made, store)?;
     let rows = root_rows(alloc, query, slots, tables.as_slice())?;
     let tables = kept_tables(alloc, query, tables)?;
     let count = kept.count.saturating_add(1);

@@ -15,29 +15,43 @@ ghost use Rattle.progression.specs.Step.{joined};
 ghost use Rattle.progression.specs.Tables.{Tabulates, table_at, IsOwn};
 
 use crate::Memory;
-use answer_tables::{Table, combine_and, combine_or};
+use answer_tables::{Made, Table};
 use formula_store::Store;
 use std::alloc::Global;
 use tcq_syntax::Node;
 
 /// The table that holds where either does.
-fn either(alloc: Global, f: &Table, g: &Table, store: &mut Store) -> Result<Table, Memory>
+fn either(
+    alloc: Global,
+    f: &Table,
+    g: &Table,
+    number: usize,
+    made: &mut Made,
+    store: &mut Store,
+) -> Result<Table, Memory>
     requires slots { f.now.slots ≡ g.now.slots }
     requires arity { f.now.arity ≡ g.now.arity }
     ensures table { IfOk result (Tabulates f.now.slots f.now.arity (λ tuple v. holds (at f.now tuple) v || holds (at g.now tuple) v) store.new) }
     ensures grown { Extends store.old store.new }
 {
-    combine_or(alloc, f, g, store)
+    made.either(number, alloc, f, g, store)
 }
 
 /// The table that holds where both do.
-fn both(alloc: Global, f: &Table, g: &Table, store: &mut Store) -> Result<Table, Memory>
+fn both(
+    alloc: Global,
+    f: &Table,
+    g: &Table,
+    number: usize,
+    made: &mut Made,
+    store: &mut Store,
+) -> Result<Table, Memory>
     requires slots { f.now.slots ≡ g.now.slots }
     requires arity { f.now.arity ≡ g.now.arity }
     ensures table { IfOk result (Tabulates f.now.slots f.now.arity (λ tuple v. holds (at f.now tuple) v && holds (at g.now tuple) v) store.new) }
     ensures grown { Extends store.old store.new }
 {
-    combine_and(alloc, f, g, store)
+    made.both(number, alloc, f, g, store)
 }
 
 /// The table that holds where the second does, or both others do.
@@ -46,6 +60,8 @@ fn widened(
     f: &Table,
     g: &Table,
     own: &Table,
+    place: u16,
+    made: &mut Made,
     store: &mut Store,
 ) -> Result<Table, Memory>
     requires slots { f.now.slots ≡ g.now.slots }
@@ -55,16 +71,19 @@ fn widened(
     ensures table { IfOk result (Tabulates f.now.slots f.now.arity (λ tuple v. holds (at g.now tuple) v || (holds (at f.now tuple) v && holds (at own.now tuple) v)) store.new) }
     ensures grown { Extends store.old store.new }
 {
-    let longer = both(alloc, f, own, store)?;
-    either(alloc, g, &longer, store)
+    let number = 3 * place as usize + 1;
+    let longer = both(alloc, f, own, number, made, store)?;
+    either(alloc, g, &longer, number + 1, made, store)
 }
 
-/// The table of a node from its children's and what it asks besides.
+/// The table of the node at a place from its children's and what it asks besides.
 pub fn join(
     alloc: Global,
     node: &Node,
+    place: u16,
     tables: &[Table],
     own: Table,
+    made: &mut Made,
     store: &mut Store,
 ) -> Result<Table, Memory>
     requires children { HasChildrenBelow (length tables.now) node.now }
@@ -73,18 +92,49 @@ pub fn join(
     ensures table { IfOk result (Tabulates own.slots own.arity (λ tuple. joined (λ c. at (table_at tables.now c) tuple) (holds (at own tuple)) node.now) store.new) }
     ensures grown { Extends store.old store.new }
 {
+    let number = 3 * place as usize + 1;
     match node {
-        Node::And(f, g) => both(alloc, &tables[*f as usize], &tables[*g as usize], store),
-        Node::Or(f, g) => either(alloc, &tables[*f as usize], &tables[*g as usize], store),
+        Node::And(f, g) => both(
+            alloc,
+            &tables[*f as usize],
+            &tables[*g as usize],
+            number,
+            made,
+            store,
+        ),
+        Node::Or(f, g) => either(
+            alloc,
+            &tables[*f as usize],
+            &tables[*g as usize],
+            number,
+            made,
+            store,
+        ),
         Node::Until(f, g) | Node::Since(f, g) => widened(
             alloc,
             &tables[*f as usize],
             &tables[*g as usize],
             &own,
+            place,
+            made,
             store,
         ),
-        Node::Eventually(f) | Node::Once(f) => either(alloc, &tables[*f as usize], &own, store),
-        Node::Always(f) | Node::Historically(f) => both(alloc, &tables[*f as usize], &own, store),
+        Node::Eventually(f) | Node::Once(f) => either(
+            alloc,
+            &tables[*f as usize],
+            &own,
+            number,
+            made,
+            store,
+        ),
+        Node::Always(f) | Node::Historically(f) => both(
+            alloc,
+            &tables[*f as usize],
+            &own,
+            number,
+            made,
+            store,
+        ),
         _ => Ok(own),
     }
 }

@@ -13,7 +13,7 @@ ghost use Rattle.progression.specs.Step.{own_test};
 ghost use Rattle.progression.specs.Tables.{Tabulates, kept_table, before_test, leaf_test, has_part, variable_of, HasLeaf, IsOverLeaf, KeptShape};
 
 use crate::Memory;
-use answer_tables::{Table, fill, from_tuples, substitute_all};
+use answer_tables::{Made, Table, fill};
 use antichains::Chain;
 use dl_syntax::{Cq, Term, Tuples};
 use formula_store::Store;
@@ -63,6 +63,8 @@ fn before(
     kept: &[(u16, Table)],
     place: u16,
     values: &[Table],
+    number: usize,
+    made: &mut Made,
     store: &mut Store,
 ) -> Result<Table, Memory>
     requires few { slots ^ arity ≤ 2 ^ 60 }
@@ -73,7 +75,7 @@ fn before(
 {
     for entry in kept {
         if entry.0 == place {
-            return substitute_all(alloc, &entry.1, values, store);
+            return made.substituted(number, alloc, &entry.1, values, store);
         }
     }
     filled(alloc, slots, arity, false, store)
@@ -88,6 +90,8 @@ fn strong(
     kept: &[(u16, Table)],
     place: u16,
     values: &[Table],
+    number: usize,
+    made: &mut Made,
     store: &mut Store,
 ) -> Result<Table, Memory>
     requires few { slots ^ arity ≤ 2 ^ 60 }
@@ -99,7 +103,9 @@ fn strong(
     if first {
         filled(alloc, slots, arity, false, store)
     } else {
-        before(alloc, slots, arity, kept, place, values, store)
+        before(
+            alloc, slots, arity, kept, place, values, number, made, store,
+        )
     }
 }
 
@@ -112,6 +118,8 @@ fn weak(
     kept: &[(u16, Table)],
     place: u16,
     values: &[Table],
+    number: usize,
+    made: &mut Made,
     store: &mut Store,
 ) -> Result<Table, Memory>
     requires few { slots ^ arity ≤ 2 ^ 60 }
@@ -123,7 +131,9 @@ fn weak(
     if first {
         filled(alloc, slots, arity, true, store)
     } else {
-        before(alloc, slots, arity, kept, place, values, store)
+        before(
+            alloc, slots, arity, kept, place, values, number, made, store,
+        )
     }
 }
 
@@ -158,6 +168,8 @@ fn answered(
     arity: u8,
     q: &Cq,
     rows: &Tuples,
+    number: usize,
+    made: &mut Made,
     store: &mut Store,
 ) -> Result<Table, Memory>
     requires few { slots ^ arity ≤ 2 ^ 60 }
@@ -167,11 +179,12 @@ fn answered(
     ensures grown { Extends store.old store.new }
 {
     let places = variables(alloc, q.head.as_slice())?;
-    from_tuples(alloc, slots, arity, places.as_slice(), rows, store)
+    made.marked(number, alloc, slots, arity, places.as_slice(), rows, store)
 }
 
 /// What a node at a place asks besides its children, as a table. `values[b]` is the value of the
-/// future node numbered `b`, and `leaf` is the node's number among the leaves, if it is one.
+/// future node numbered `b`, and `leaf` is the node's number among the leaves, if it is one. What
+/// is made of the same as before is shared with what was made then.
 pub fn own(
     alloc: Global,
     slots: u32,
@@ -183,6 +196,7 @@ pub fn own(
     leaves: &[Tuples],
     leaf: usize,
     values: &[Table],
+    made: &mut Made,
     store: &mut Store,
 ) -> Result<Table, Memory>
     requires few { slots ^ arity ≤ 2 ^ 60 }
@@ -193,20 +207,29 @@ pub fn own(
     ensures table { IfOk result (Tabulates slots arity (λ tuple v. own_test first (length values.now) (before_test kept.now place values.now node.now tuple) (leaf_test leaves.now leaf node.now tuple) node.now v) store.new) }
     ensures grown { Extends store.old store.new }
 {
+    let number = 3 * place as usize;
     match node {
         Node::True => filled(alloc, slots, arity, true, store),
         Node::False | Node::And(_, _) | Node::Or(_, _) => filled(alloc, slots, arity, false, store),
-        Node::Leaf(q) => answered(alloc, slots, arity, q, &leaves[leaf], store),
+        Node::Leaf(q) => answered(alloc, slots, arity, q, &leaves[leaf], number, made, store),
         Node::Next(_)
         | Node::WeakNext(_)
         | Node::Until(_, _)
         | Node::Eventually(_)
         | Node::Always(_) => granted(alloc, slots, arity, values.len() as u8, store),
-        Node::Prev(f) => strong(alloc, slots, arity, first, kept, *f, values, store),
-        Node::WeakPrev(f) => weak(alloc, slots, arity, first, kept, *f, values, store),
+        Node::Prev(f) => strong(
+            alloc, slots, arity, first, kept, *f, values, number, made, store,
+        ),
+        Node::WeakPrev(f) => weak(
+            alloc, slots, arity, first, kept, *f, values, number, made, store,
+        ),
         Node::Since(_, _) | Node::Once(_) => {
-            strong(alloc, slots, arity, first, kept, place, values, store)
+            strong(
+                alloc, slots, arity, first, kept, place, values, number, made, store,
+            )
         }
-        Node::Historically(_) => weak(alloc, slots, arity, first, kept, place, values, store),
+        Node::Historically(_) => weak(
+            alloc, slots, arity, first, kept, place, values, number, made, store,
+        ),
     }
 }

@@ -11,7 +11,7 @@ ghost use Rattle.progression.specs.Tables.{Tabulates, AreTables, table_at, step_
 use crate::Memory;
 use crate::joined::join;
 use crate::own::own;
-use answer_tables::Table;
+use answer_tables::{Made, Table};
 use dl_syntax::Tuples;
 use formula_store::Store;
 use std::alloc::Global;
@@ -43,6 +43,7 @@ fn node_table(
     leaves: &[Tuples],
     tables: &[Table],
     values: &[Table],
+    made: &mut Made,
     store: &mut Store,
 ) -> Result<Table, Memory>
     requires few { slots ^ arity ≤ 2 ^ 60 }
@@ -70,9 +71,10 @@ fn node_table(
         leaves,
         leaf,
         values,
+        made,
         store,
     )?;
-    join(alloc, node, tables, own, store)
+    join(alloc, node, place as u16, tables, own, made, store)
 }
 
 /// The table of what is granted with a future node.
@@ -113,6 +115,7 @@ pub fn node_tables(
     first: bool,
     kept: &[(u16, Table)],
     leaves: &[Tuples],
+    made: &mut Made,
     store: &mut Store,
 ) -> Result<Vec<Table>, Memory>
     requires few { slots ^ arity ≤ 2 ^ 60 }
@@ -138,6 +141,7 @@ pub fn node_tables(
             leaves,
             tables.as_slice(),
             values.as_slice(),
+            made,
             store,
         )?;
         values = values_after(values, node, tables.as_slice(), &table)?;

@@ -8,6 +8,7 @@ ghost use Rattle.progression.specs.Tables.{IsOverLeaf};
 ghost use Rattle.dl_syntax.specs.declared.queries.Cq.{Cq};
 
 use crate::{Kept, Memory, advance, fits, start};
+use answer_tables::Made;
 use dl_syntax::{Atom, ConceptId, Cq, IndId, Items, Name, Term, Tuples};
 use formula_store::Store;
 use std::alloc::Global;
@@ -69,6 +70,7 @@ fn step(
     kept: &Kept,
     server: Option<u32>,
     failed: Option<u32>,
+    made: &mut Made,
     store: &mut Store,
 ) -> Result<(Kept, Tuples), Memory>
     requires vars { query.now.vars ≡ 1 }
@@ -78,16 +80,21 @@ fn step(
 {
     let server = rows_of(alloc, server)?;
     let failed = rows_of(alloc, failed)?;
-    advance(alloc, query, 4, kept, &[server, failed], store)
+    advance(alloc, query, 4, kept, &[server, failed], made, store)
 }
 
-fn first_step(alloc: Global, query: &Query, store: &mut Store) -> Result<(Kept, Tuples), Memory>
+fn first_step(
+    alloc: Global,
+    query: &Query,
+    made: &mut Made,
+    store: &mut Store,
+) -> Result<(Kept, Tuples), Memory>
     requires vars { query.now.vars ≡ 1 }
     requires nodes { query.now.nodes ≡ server_then_failed }
     ensures { IfOk result (λ r. Fits query.now 4 r.0) }
 {
     let kept = start(alloc);
-    step(alloc, query, &kept, Some(0), None, store)
+    step(alloc, query, &kept, Some(0), None, made, store)
 }
 
 // Whether the only table has these sets at the individual.
@@ -116,8 +123,9 @@ fn has_chains(kept: &Kept, sets: &[u8]) -> bool {
 fn keeps_what_may_come(rt: HostRuntime) -> Result<(), Memory> {
     let alloc = rt.alloc();
     let query = server_then_failed(alloc)?;
+    let mut made = Made::new(alloc);
     let mut store = Store::new(alloc);
-    let (kept, rows) = first_step(alloc, &query, &mut store)?;
+    let (kept, rows) = first_step(alloc, &query, &mut made, &mut store)?;
     assert!(rt; rows.is_empty());
     assert!(rt; has_chains(&kept, &[1]));
     assert!(rt; fits(&query, 4, &kept));
@@ -128,9 +136,10 @@ fn keeps_what_may_come(rt: HostRuntime) -> Result<(), Memory> {
 fn answers_when_it_came(rt: HostRuntime) -> Result<(), Memory> {
     let alloc = rt.alloc();
     let query = server_then_failed(alloc)?;
+    let mut made = Made::new(alloc);
     let mut store = Store::new(alloc);
-    let (kept, _) = first_step(alloc, &query, &mut store)?;
-    let (kept, rows) = step(alloc, &query, &kept, None, Some(0), &mut store)?;
+    let (kept, _) = first_step(alloc, &query, &mut made, &mut store)?;
+    let (kept, rows) = step(alloc, &query, &kept, None, Some(0), &mut made, &mut store)?;
     assert!(rt; rows.len() == 1 && rows.row(0) == [IndId(0)].as_slice());
     assert!(rt; has_chains(&kept, &[0]));
     Ok(())

@@ -7,12 +7,12 @@ use Rattle.progression.proofs.own.before.Goals as goal
 pub returns-then-entry-place-clause-table : goal.returns-then-entry-place-clause-table
 returns-then-entry-place-clause-table c =
     let i = c.loop-entry.entry-index in
-    Tabulates-substituted c.args.slots c.args.arity c.args.kept.now c.args.place c.args.values.now c.substitute_all.new.store c.entry-item.result.1 c.substitute_all.result
+    Tabulates-substituted c.args.slots c.args.arity c.args.kept.now c.args.place c.args.values.now c.substituted.new.store c.entry-item.result.1 c.substituted.result
     (kept_table-here c.args.kept.now i c.args.place c.entry-item.result c.loop-entry-test.true c.entry-item.is c.if-entry-place.true c.loop-entry.invariant.rest)
-    (subst (λ (e : ℕ × Chains). (e.1.slots ≡ c.args.slots) × (e.1.arity ≡ c.args.arity)) (sym c.entry-item.is) (c.requires.kept i c.entry-item.result c.loop-entry-test.true)) c.substitute_all.ensures.slots c.substitute_all.ensures.arity c.substitute_all.ensures.each c.substitute_all.ensures.stored
+    (subst (λ (e : ℕ × Chains). (e.1.slots ≡ c.args.slots) × (e.1.arity ≡ c.args.arity)) (sym c.entry-item.is) (c.requires.kept i c.entry-item.result c.loop-entry-test.true)) c.substituted.ensures.slots c.substituted.ensures.arity c.substituted.ensures.each c.substituted.ensures.stored
 
 pub returns-then-entry-place-clause-grown : goal.returns-then-entry-place-clause-grown
-returns-then-entry-place-clause-grown c = subst (λ (s : List (List ℕ)). Extends s c.substitute_all.new.store) c.loop-entry.invariant.store c.substitute_all.ensures.grown
+returns-then-entry-place-clause-grown c = subst (λ (s : List (List ℕ)). Extends s c.substituted.new.store) c.loop-entry.invariant.store c.substituted.ensures.grown
 
 pub returns-clause-table : goal.returns-clause-table
 returns-clause-table c =
