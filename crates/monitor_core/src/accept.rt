@@ -9,7 +9,7 @@ ghost use Rattle.consistency.specs.Least.{IsLeastClash, IsConsistentUnder};
 ghost use Rattle.monitor_core.specs.Answering.{AreOver, AreRowsOf};
 ghost use Rattle.monitor_core.specs.Planning.{IsPlan};
 ghost use Rattle.monitor_core.specs.Leaves.{AreUnionAnswers, AreLeafRelations};
-ghost use Rattle.monitor_core.specs.Keeping.{AllFit};
+ghost use Rattle.monitor_core.specs.Keeping.{AllFit, IsMonitored};
 ghost use Rattle.monitor_core.specs.Advancing.{AreSeen, Advances, AllAdvance};
 ghost use Rattle.monitor_core.specs.Standing.{Stands, Accepts, IsNext, setting_of};
 
@@ -18,18 +18,38 @@ use crate::leaves::{leaf_answers, relations_at};
 use crate::monitor::Monitor;
 use crate::plan::Plan;
 use crate::state::{State, state_of};
+use answer_tables::Made;
 use consistency::first_clash_closed;
 use dl_syntax::{Memory, Snapshot, Tuples};
 use fact_index::{Index, build};
 use formula_store::Store;
 use progression::{Kept, advance};
 use std::alloc::Global;
+use std::mem::replace;
 
 /// What is kept of each query, and its answers.
 #[derive(Drop)]
 struct Advanced {
     kept: Vec<Kept>,
     answers: Vec<Tuples>,
+}
+
+/// What was made of the query at the place before, which is taken away.
+fn take_made(alloc: Global, made: &mut Vec<Made>, place: usize) -> Made {
+    if place < made.len() {
+        replace(&mut made[place], Made::new(alloc))
+    } else {
+        Made::new(alloc)
+    }
+}
+
+/// Puts what was made of the query at the place there, or last.
+fn put_made(made: &mut Vec<Made>, place: usize, known: Made) {
+    if place < made.len() {
+        made[place] = known;
+    } else {
+        let _ = made.push(known);
+    }
 }
 
 impl Plan {
@@ -50,6 +70,7 @@ impl Plan {
         place: usize,
         kept: &Kept,
         relations: &[Tuples],
+        made: &mut Vec<Made>,
         store: &mut Store,
     ) -> Result<(Kept, Tuples), Memory>
         requires plan { IsPlan self.now }
@@ -61,11 +82,22 @@ impl Plan {
         let query = &self.queries[place];
         let places = self.places.as_slice();
         let leaves = relations_at(alloc, relations, places[place].as_slice())?;
-        advance(alloc, query, self.slots, kept, leaves.as_slice(), store)
+        let slots = self.slots;
+        let mut known = take_made(alloc, made, place);
+        let asked = leaves.as_slice();
+        let next = advance(alloc, query, slots, kept, asked, &mut known, store);
+        put_made(made, place, known);
+        next
     }
 
     /// What is kept of each query after one more snapshot, from whose facts these follow, and the answers then.
-    fn advanced(&self, alloc: Global, kept: &[Kept], facts: &Index) -> Result<Advanced, Memory>
+    fn advanced(
+        &self,
+        alloc: Global,
+        kept: &[Kept],
+        facts: &Index,
+        made: &mut Vec<Made>,
+    ) -> Result<Advanced, Memory>
         requires plan { IsPlan self.now }
         requires fits { AllFit self.now.ontology self.now.queries.items kept.now }
         ensures { IfOk result (λ a. AllAdvance self.now.ontology self.now.sight self.now.queries.items facts.now kept.now a.kept.items a.answers.items) }
@@ -76,28 +108,33 @@ impl Plan {
         let mut answers = Vec::with_capacity(alloc, kept.len())?;
         for place in 0..kept.len() {
             let known = relations.as_slice();
-            let (k, rows) = self.advance_one(alloc, place, &kept[place], known, &mut store)?;
+            let (k, rows) = self.advance_one(alloc, place, &kept[place], known, made, &mut store)?;
             new.push(k)?;
             answers.push(rows)?;
         }
         Ok(Advanced { kept: new, answers })
     }
-}
 
-impl Monitor {
-    /// The next state, and the answers of each query then.
-    fn next(&self, alloc: Global, facts: &Index) -> Result<(State, Vec<Tuples>), Memory>
-        ensures { IfOk result (λ r. IsNext self.now facts.now r.0 r.1.items) }
+    /// The state after this one, and the answers of each query then.
+    fn next(
+        &self,
+        alloc: Global,
+        state: &State,
+        facts: &Index,
+        made: &mut Vec<Made>,
+    ) -> Result<(State, Vec<Tuples>), Memory>
+        requires { IsMonitored (record { plan = self.now; state = state.now }) }
+        ensures { IfOk result (λ r. IsNext (record { plan = self.now; state = state.now }) facts.now r.0 r.1.items) }
     {
-        let advanced = self
-            .plan
-            .advanced(alloc, self.state.kept.as_slice(), facts)?;
+        let advanced = self.advanced(alloc, state.kept.as_slice(), facts, made)?;
         let Advanced { kept, answers } = advanced;
-        let count = self.state.count.saturating_add(1);
+        let count = state.count.saturating_add(1);
         let state = state_of(alloc, count, kept)?;
         Ok((state, answers))
     }
+}
 
+impl Monitor {
     /// Takes the next snapshot, and gives the answers of each query then. A snapshot that is inconsistent is refused with the least clash that it meets. A refused snapshot changes nothing.
     pub fn accept(&mut self, alloc: Global, snapshot: &Snapshot) -> Result<Vec<Tuples>, AcceptFault>
         requires { AreOver (setting_of self.old).ontology snapshot.now }
@@ -112,7 +149,7 @@ impl Monitor {
         if let Some(number) = first_clash_closed(alloc, &self.plan.clashes, &facts)? {
             return Err(AcceptFault::Contradiction(number));
         }
-        let (state, answers) = self.next(alloc, &facts)?;
+        let (state, answers) = self.plan.next(alloc, &self.state, &facts, &mut self.made)?;
         self.state = state;
         Ok(answers)
     }

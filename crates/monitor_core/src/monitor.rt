@@ -6,6 +6,7 @@ ghost use Rattle.monitor_core.specs.Standing.{Stands, setting_of, count_of};
 
 use crate::plan::Plan;
 use crate::state::{State, clauses_of};
+use answer_tables::Made;
 use dl_syntax::{Memory, Ontology};
 use std::alloc::Global;
 use std::marker::Model;
@@ -16,6 +17,8 @@ use tcq_syntax::Query;
 pub struct Monitor {
     pub(crate) plan: Plan,
     pub(crate) state: State,
+    /// What was made of each query at the last snapshot, so that the same is not made again.
+    pub(crate) made: Vec<Made>,
 }
 
 impl Model for Monitor {

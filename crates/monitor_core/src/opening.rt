@@ -351,8 +351,9 @@ pub fn open(
         Ok(plan) => plan,
         Err(fault) => return Err(fault),
     };
+    let made = Vec::new(alloc);
     match first_state(alloc, plan.queries.as_slice()) {
-        Ok(state) => Ok(Monitor { plan, state }),
+        Ok(state) => Ok(Monitor { plan, state, made }),
         Err(_) => Err(RewriteFault::Memory),
     }
 }

@@ -5,7 +5,7 @@ use Rattle.dl_syntax.specs.Ontology.{Declared}
 use Rattle.consistency.specs.Least.{IsFirstClash, IsLeastClash, IsConsistentUnder}
 use Rattle.monitor_core.specs.Keeping.{Monitored}
 use Rattle.monitor_core.specs.Answering.{AreOver, AreRowsOf}
-use Rattle.monitor_core.specs.Standing.{Stands, Accepts, IsNext, setting_of}
+use Rattle.monitor_core.specs.Standing.{Stands, Accepts, setting_of}
 use Rattle.monitor_core.proofs.Seeing.{agree_on_clashes}
 use Rattle.monitor_core.proofs.Accepting.{over_setting}
 use Rattle.monitor_core.proofs.Accepting.{after, still_monitored, next_rows, accepts}
@@ -28,7 +28,10 @@ returns-in-Some-clause-contradiction c = λ number is.
     subst (λ (m : Monitored). IsLeastClash (setting_of m).ontology c.args.snapshot.now number) c.self.view_is least
 
 pub invariant_of-self : goal.invariant_of-self
-invariant_of-self c = still_monitored (record { plan = c.self.inside.plan; state = c.self.inside.state }) c.in_ok-facts.facts c.in_ok-state.state c.in_ok-state.answers.items (subst (λ (m : Monitored). IsNext m c.in_ok-facts.facts c.in_ok-state.state c.in_ok-state.answers.items) (sym c.self.view_is) c.in_ok-state.ensures) c.self.invariant
+invariant_of-self c = c.self.invariant
+
+pub invariant_of-self-2 : goal.invariant_of-self-2
+invariant_of-self-2 c = still_monitored (record { plan = c.self.inside.plan; state = c.self.inside.state }) c.in_ok-facts.facts c.in_ok-state.state c.in_ok-state.answers.items c.in_ok-state.ensures c.self.invariant
 
 pub returns-clause-setting : goal.returns-clause-setting
 unfolding setting_of
@@ -37,7 +40,7 @@ returns-clause-setting c = ap (λ (m : Monitored). setting_of m) c.self.view_is
 pub returns-clause-rows : goal.returns-clause-rows
 returns-clause-rows c =
     subst (λ (m : Monitored). AreRowsOf (setting_of m).ontology (setting_of m).queries c.in_ok-state.answers.items) c.self.view_is
-    (next_rows (record { plan = c.self.inside.plan; state = c.self.inside.state }) c.in_ok-facts.facts c.in_ok-state.state c.in_ok-state.answers.items (subst (λ (m : Monitored). IsNext m c.in_ok-facts.facts c.in_ok-state.state c.in_ok-state.answers.items) (sym c.self.view_is) c.in_ok-state.ensures))
+    (next_rows (record { plan = c.self.inside.plan; state = c.self.inside.state }) c.in_ok-facts.facts c.in_ok-state.state c.in_ok-state.answers.items c.in_ok-state.ensures)
 
 pub returns-clause-consistent : goal.returns-clause-consistent
 unfolding setting_of
@@ -48,5 +51,5 @@ returns-clause-consistent c =
 pub returns-clause-ok : goal.returns-clause-ok
 returns-clause-ok c = λ history stands.
     let before : Stands (record { plan = c.self.inside.plan; state = c.self.inside.state }) history = subst (λ (m : Monitored). Stands m history) (sym c.self.view_is) stands in
-    subst (λ (m : Monitored). Accepts m (after (record { plan = c.self.inside.plan; state = c.self.inside.state }) c.in_ok-facts.facts c.in_ok-state.state c.in_ok-state.answers.items (subst (λ (m : Monitored). IsNext m c.in_ok-facts.facts c.in_ok-state.state c.in_ok-state.answers.items) (sym c.self.view_is) c.in_ok-state.ensures)) c.args.snapshot.now c.in_ok-state.answers.items history) c.self.view_is
-    (accepts (record { plan = c.self.inside.plan; state = c.self.inside.state }) c.in_ok-facts.facts c.in_ok-state.state c.in_ok-state.answers.items (subst (λ (m : Monitored). IsNext m c.in_ok-facts.facts c.in_ok-state.state c.in_ok-state.answers.items) (sym c.self.view_is) c.in_ok-state.ensures) c.args.snapshot.now history (over_setting c.self.inside.plan c.self.inside.state c.args.self.now c.args.snapshot.now c.self.view_is c.self.invariant c.requires) c.in_ok-facts.ensures before)
+    subst (λ (m : Monitored). Accepts m (after (record { plan = c.self.inside.plan; state = c.self.inside.state }) c.in_ok-facts.facts c.in_ok-state.state c.in_ok-state.answers.items c.in_ok-state.ensures) c.args.snapshot.now c.in_ok-state.answers.items history) c.self.view_is
+    (accepts (record { plan = c.self.inside.plan; state = c.self.inside.state }) c.in_ok-facts.facts c.in_ok-state.state c.in_ok-state.answers.items c.in_ok-state.ensures c.args.snapshot.now history (over_setting c.self.inside.plan c.self.inside.state c.args.self.now c.args.snapshot.now c.self.view_is c.self.invariant c.requires) c.in_ok-facts.ensures before)
