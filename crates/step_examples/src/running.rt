@@ -5,6 +5,7 @@ ghost use Rattle.progression.specs.Kept.{Fits};
 
 use crate::leaves::leaves_at;
 use crate::plain::{Fact, holds_last};
+use answer_tables::Made;
 use formula_store::Store;
 use progression::{Kept, advance, start};
 use std::alloc::Global;
@@ -16,6 +17,7 @@ fn one_step(
     query: &Query,
     kept: &Kept,
     facts: &[Fact],
+    made: &mut Made,
     store: &mut Store,
 ) -> Option<(Kept, bool)>
     requires fits { Fits query.now 1 kept.now }
@@ -24,7 +26,7 @@ fn one_step(
     ensures { IfSome result (λ r. Fits query.now 1 r.0) }
 {
     let leaves = leaves_at(alloc, query.nodes(), facts[facts.len() - 1])?;
-    let (kept, rows) = advance(alloc, query, 1, kept, leaves.as_slice(), store).ok()?;
+    let (kept, rows) = advance(alloc, query, 1, kept, leaves.as_slice(), made, store).ok()?;
     let expected = holds_last(alloc, query.nodes(), facts).ok()?;
     Some((kept, rows.is_empty() != expected))
 }
@@ -35,9 +37,17 @@ pub fn agrees(alloc: Global, query: &Query, facts: &[Fact]) -> Option<bool>
     requires { length facts.now ≤ 4 }
 {
     let mut kept = start(alloc);
+    let mut made = Made::new(alloc);
     let mut store = Store::new(alloc);
     for count in 0..facts.len() {
-        let (next, same) = one_step(alloc, query, &kept, &facts[..count + 1], &mut store)?;
+        let (next, same) = one_step(
+            alloc,
+            query,
+            &kept,
+            &facts[..count + 1],
+            &mut made,
+            &mut store,
+        )?;
         if !same {
             return Some(false);
         }
