@@ -1,6 +1,7 @@
 mod Runs
 mod UnitRuns
 mod Aligning
+mod Bytes
 mod Numbers
 mod Views
 mod Renamings

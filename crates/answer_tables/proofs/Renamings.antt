@@ -9,48 +9,83 @@ use Rattle.std.proofs.lemmas.Option.{slice_get-get_or, slice_get_within, get_or_
 use Rattle.formula_store.specs.Interned.{interned, AreDistinct}
 use Rattle.formula_store.proofs.Chains.{is_chain, slice_get-interned}
 use Rattle.answer_tables.specs.declared.run.Run.{Run}
-use Rattle.answer_tables.specs.Runs.{link_at, end_from, RiseFrom, NamedBelow, Extended}
+use Rattle.answer_tables.specs.Runs.{link_at, end_from, RiseFrom, NamedBelow, Extended, AreAlike}
 use Rattle.answer_tables.specs.Renaming.{ArePlaces, AreRenamed}
 use Rattle.answer_tables.specs.Table.{AreRuns, AreUsed, IsTable, view_of}
-use Rattle.answer_tables.proofs.Runs.{run_at, Rest, Rest-start, Rest-here, Rest-next, Rest-end, link_at-named}
+use Rattle.answer_tables.proofs.Runs.{run_at, Rest, Rest-start, Rest-here, Rest-above, Rest-next, Rest-end, link_at-named}
 use Rattle.answer_tables.proofs.Views.{view_same}
 
--- the runs so far, renamed
-pub record Renaming (places : List ℕ) (runs new : List Run) (i : ℕ) : Type 0 where
+-- the runs so far, each number replaced by another
+pub record Mapping (f : ℕ → ℕ) (runs new : List Run) (i : ℕ) : Type 0 where
   pub rise : RiseFrom 0 new
   pub rest : Rest runs i (end_from 0 new) (end_from 0 runs)
-  pub same : (n : ℕ) → n < end_from 0 new → link_at new n ≡ slice_index places (link_at runs n)
-  pub named : (limit : ℕ) → ((k : ℕ) → k < length places → slice_index places k < limit) → NamedBelow limit new
+  pub same : (n : ℕ) → n < end_from 0 new → link_at new n ≡ f (link_at runs n)
+  pub named : (limit : ℕ) → ((k : ℕ) → k < length runs → f (run_at runs k).link < limit) → NamedBelow limit new
 
-pub Renaming-start : (places : List ℕ) (runs new : List Run) → RiseFrom 0 runs → new ≡ [] → Renaming places runs new 0
-Renaming-start places runs new rise none = subst (λ (xs : List Run). Renaming places runs xs 0) (sym none) (record {
+pub Mapping-start : (f : ℕ → ℕ) (runs new : List Run) → RiseFrom 0 runs → new ≡ [] → Mapping f runs new 0
+Mapping-start f runs new rise none = subst (λ (xs : List Run). Mapping f runs xs 0) (sym none) (record {
   rise = tt;
   rest = Rest-start runs (end_from 0 runs) rise refl;
   same = λ n below. absurd (omega (arith, below));
   named = λ limit all k d within. absurd (omega (arith, within));
 })
 
-pub Renaming-step : (places : List ℕ) (runs new new' : List Run) (i : ℕ) → NamedBelow (length places) runs → Renaming places runs new i → i < length runs → Extended new (record { end = (run_at runs i).end; link = slice_index places (run_at runs i).link }) new' → Renaming places runs new' (i + 1)
-Renaming-step places runs new new' i all renaming within extended = record {
+pub Mapping-step : (f : ℕ → ℕ) (runs new new' : List Run) (i : ℕ) → Mapping f runs new i → i < length runs → Extended new (record { end = (run_at runs i).end; link = f (run_at runs i).link }) new' → Mapping f runs new' (i + 1)
+Mapping-step f runs new new' i mapping within extended = record {
   rise = extended.rise;
-  rest = subst (λ (e : ℕ). Rest runs (i + 1) e (end_from 0 runs)) (sym extended.ends) (Rest-next runs i (end_from 0 new) (end_from 0 runs) (run_at runs i).end renaming.rest within refl);
+  rest = subst (λ (e : ℕ). Rest runs (i + 1) e (end_from 0 runs)) (sym extended.ends) (Rest-next runs i (end_from 0 new) (end_from 0 runs) (run_at runs i).end mapping.rest within refl);
   same = λ n below. same n (subst (λ (e : ℕ). n < e) extended.ends below) (cases_lt n (end_from 0 new));
-  named = λ limit small. extended.named limit (renaming.named limit small) (small (run_at runs i).link (all i (record { end = 0; link = 0 }) within));
+  named = λ limit small. extended.named limit (mapping.named limit small) (small i within);
 }
   where
-    same : (n : ℕ) → n < (run_at runs i).end → (n < end_from 0 new) ⊎ (end_from 0 new ≤ n) → link_at new' n ≡ slice_index places (link_at runs n)
-    same n below (inl early) = extended.before n early ∙ renaming.same n early
-    same n below (inr late) = extended.since n late below ∙ ap (slice_index places) (sym (Rest-here runs i (end_from 0 new) (end_from 0 runs) n renaming.rest within late below))
+    same : (n : ℕ) → n < (run_at runs i).end → (n < end_from 0 new) ⊎ (end_from 0 new ≤ n) → link_at new' n ≡ f (link_at runs n)
+    same n below (inl early) = extended.before n early ∙ mapping.same n early
+    same n below (inr late) = extended.since n late below ∙ ap f (sym (Rest-here runs i (end_from 0 new) (end_from 0 runs) n mapping.rest within late below))
 
-pub AreRenamed-end : (places : List ℕ) (runs new : List Run) (i : ℕ) → Renaming places runs new i → length runs ≤ i → AreRenamed places runs new
-AreRenamed-end places runs new i renaming past =
-    let ends : end_from 0 new ≡ end_from 0 runs = Rest-end runs i (end_from 0 new) (end_from 0 runs) renaming.rest past in
+-- the next run ends above those so far
+pub Mapping-above : (f : ℕ → ℕ) (runs new : List Run) (i : ℕ) → Mapping f runs new i → i < length runs → end_from 0 new < (run_at runs i).end
+Mapping-above f runs new i mapping within = Rest-above runs i (end_from 0 new) (end_from 0 runs) mapping.rest within
+
+pub AreRenamed-end : (places : List ℕ) (runs new : List Run) (i : ℕ) → NamedBelow (length places) runs → Mapping (slice_index places) runs new i → length runs ≤ i → AreRenamed places runs new
+AreRenamed-end places runs new i all mapping past =
+    let ends : end_from 0 new ≡ end_from 0 runs = Rest-end runs i (end_from 0 new) (end_from 0 runs) mapping.rest past in
     record {
-      rise = renaming.rise;
+      rise = mapping.rise;
       ends = ends;
-      same = λ n below. renaming.same n (omega (arith, below, ends));
-      named = renaming.named;
+      same = λ n below. mapping.same n (omega (arith, below, ends));
+      named = λ limit small. mapping.named limit (λ k within. small (run_at runs k).link (all k (record { end = 0; link = 0 }) within));
     }
+
+pub AreAlike-end : (runs new : List Run) (i : ℕ) → Mapping (λ k. k) runs new i → length runs ≤ i → AreAlike runs new
+AreAlike-end runs new i mapping past =
+    let ends : end_from 0 new ≡ end_from 0 runs = Rest-end runs i (end_from 0 new) (end_from 0 runs) mapping.rest past in
+    record {
+      rise = mapping.rise;
+      ends = ends;
+      same = λ n below. mapping.same n (omega (arith, below, ends));
+      named = λ limit small. mapping.named limit (λ k within. small k (record { end = 0; link = 0 }) within);
+    }
+
+-- runs are like themselves
+pub AreAlike-same : (runs new : List Run) → runs ≡ new → RiseFrom 0 runs → AreAlike runs new
+AreAlike-same runs new is rise = subst (AreAlike runs) is (record { rise = rise; ends = refl; same = λ n below. refl; named = λ limit small. small })
+
+-- and what is like them is renamed as they are
+pub AreRenamed-alike : (places : List ℕ) (runs new other : List Run) → AreRenamed places runs new → AreAlike new other → AreRenamed places runs other
+AreRenamed-alike places runs new other renamed alike = record {
+  rise = alike.rise;
+  ends = alike.ends ∙ renamed.ends;
+  same = λ n below. alike.same n (omega (arith, below, renamed.ends)) ∙ renamed.same n below;
+  named = λ limit small. alike.named limit (renamed.named limit small);
+}
+
+pub AreRenamed-of_alike : (places : List ℕ) (runs other new : List Run) → AreAlike runs other → AreRenamed places other new → AreRenamed places runs new
+AreRenamed-of_alike places runs other new alike renamed = record {
+  rise = renamed.rise;
+  ends = renamed.ends ∙ alike.ends;
+  same = λ n below. renamed.same n (omega (arith, below, alike.ends)) ∙ ap (slice_index places) (alike.same n below);
+  named = renamed.named;
+}
 
 -- where each number is its own place, nothing changes
 pub AreRenamed-same : (places : List ℕ) (runs new : List Run) → new ≡ runs → RiseFrom 0 runs → NamedBelow (length places) runs → ((i : ℕ) → i < length places → slice_index places i ≡ i) → AreRenamed places runs new
@@ -64,6 +99,10 @@ AreRenamed-same places runs new is rise all own = subst (AreRenamed places runs)
       let place : slice_index places number < limit = small number inside in
       omega (arith, place, own number inside);
 })
+
+-- the same where they are only like those
+pub AreRenamed-own : (places : List ℕ) (runs new : List Run) → AreAlike runs new → RiseFrom 0 runs → NamedBelow (length places) runs → ((i : ℕ) → i < length places → slice_index places i ≡ i) → AreRenamed places runs new
+AreRenamed-own places runs new alike rise all own = AreRenamed-alike places runs runs new (AreRenamed-same places runs runs refl rise all own) alike
 
 -- one more link among those that were given
 one_place : (once : List (List ℕ)) (p q : ℕ) (x : List ℕ) → AreDistinct once → slice_get once p ≡ Some x → slice_get once q ≡ Some x → p ≡ q
@@ -150,3 +189,15 @@ module _ (slots arity : ℕ) (links once : List (List ℕ)) (places : List ℕ) 
   view_renamed = view_same slots arity once links new runs (λ n below.
       ap (λ (k : ℕ). slice_index_or once k []) (renamed.same n (omega (arith, below, are.ends)))
       ∙ get_or_from_slice_get once (slice_index places (link_at runs n)) (slice_index_or links (link_at runs n) []) [] (are_places.same (link_at runs n) [] (small n below)))
+
+-- the same table by runs alike
+pub AreRuns-alike : (slots arity : ℕ) (links : List (List ℕ)) (runs new : List Run) → AreAlike runs new → AreRuns slots arity links runs → AreRuns slots arity links new
+AreRuns-alike slots arity links runs new alike are = record { rise = alike.rise; ends = alike.ends ∙ are.ends; few = are.few; named = alike.named (length links) are.named }
+
+pub AreUsed-alike : (limit count : ℕ) (runs new : List Run) → AreAlike runs new → end_from 0 runs ≡ limit → AreUsed limit count runs → AreUsed limit count new
+AreUsed-alike limit count runs new alike ends used i within =
+    let n = used i within in
+    (n.0, n.1, alike.same n.0 (let l = n.1 in omega (arith, l, ends)) ∙ n.2)
+
+pub view_alike : (slots arity : ℕ) (links : List (List ℕ)) (runs new : List Run) → AreAlike runs new → AreRuns slots arity links runs → view_of slots arity links new ≡ view_of slots arity links runs
+view_alike slots arity links runs new alike are = view_same slots arity links links new runs (λ n below. ap (λ (k : ℕ). slice_index_or links k []) (alike.same n (omega (arith, below, are.ends))))

@@ -124,3 +124,19 @@ pub whole_at_late : (runs : List Run) (ns : List ℕ) (i : ℕ) → length runs 
 whole_at_late runs ns i past within =
     get_or-append_right runs (unit_runs (end_from 0 runs) ns) (length runs) i (record { end = 0; link = 0 }) refl past
     ∙ unit_at (end_from 0 runs) ns (i - length runs) (omega (arith, past, within))
+
+-- one more number, told of bytes alone
+pub Extended-unit : (front : List ℕ) (x end : ℕ) → end ≡ length front + 1 → Extended (unit_runs 0 front) (record { end = end; link = x }) (unit_runs 0 (front ++ x ∷ []))
+Extended-unit front x end is = whole_filled [] front 1 x end tt (omega (arith, is))
+
+pub Extended-units : (front : List ℕ) (x end : ℕ) → length front < end → Extended (unit_runs 0 front) (record { end = end; link = x }) (unit_runs 0 (front ++ replicate (end - length front) x))
+Extended-units front x end less = whole_filled [] front (end - length front) x end tt (omega (arith, less))
+
+pub end_unit : (ns : List ℕ) → end_from 0 (unit_runs 0 ns) ≡ length ns
+end_unit ns = omega (arith, end_units 0 ns)
+
+pub rise_unit : (ns : List ℕ) → RiseFrom 0 (unit_runs 0 ns)
+rise_unit ns = rise_units 0 ns
+
+pub unit_run : (ns : List ℕ) (i : ℕ) → i < length ns → run_at (unit_runs 0 ns) i ≡ record { end = i + 1; link = get_or ns i 0 }
+unit_run ns i within = let e : 0 + i + 1 ≡ i + 1 = omega arith in unit_at 0 ns i within ∙ ap (λ (k : ℕ). record { end = k; link = get_or ns i 0 }) e

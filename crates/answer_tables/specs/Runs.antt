@@ -33,3 +33,10 @@ pub record Extended (old : List Run) (run : Run) (new : List Run) : Type 0 where
   pub before : (n : ℕ) → n < end_from 0 old → link_at new n ≡ link_at old n
   pub since : (n : ℕ) → end_from 0 old ≤ n → n < run.end → link_at new n ≡ run.link
   pub named : (limit : ℕ) → NamedBelow limit old → run.link < limit → NamedBelow limit new
+
+-- other runs with the same number at each rank
+pub record AreAlike (runs new : List Run) : Type 0 where
+  pub rise : RiseFrom 0 new
+  pub ends : end_from 0 new ≡ end_from 0 runs
+  pub same : (n : ℕ) → n < end_from 0 runs → link_at new n ≡ link_at runs n
+  pub named : (limit : ℕ) → NamedBelow limit runs → NamedBelow limit new

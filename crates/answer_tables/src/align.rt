@@ -1,18 +1,17 @@
 //! Two lists of numbers at once.
 
-ghost use Rattle.std.specs.Prelude.{◌≡◌, ◌<◌, ◌≤◌, ◌+◌, ◌-◌, ◌^◌, ◌++◌, ◌∷◌, ◌⊎◌, [], IfOk, OnErr, length, true, false};
-ghost use Rattle.answer_tables.specs.Runs.{RiseFrom, end_from};
+ghost use Rattle.std.specs.Prelude.{◌≡◌, ◌<◌, ◌+◌, ◌-◌, ◌^◌, [], IfOk, IfSome, length, true};
+ghost use Rattle.answer_tables.specs.Runs.{RiseFrom, end_from, unit_runs};
 ghost use Rattle.answer_tables.specs.Joint.{IsAligned, joint_at};
 ghost use Rattle.answer_tables.specs.Numbering.{Numbered};
 
 use crate::Memory;
 use crate::ranking::Ranking;
-use crate::run::Run;
+use crate::run::{Run, extend};
 use std::alloc::Global;
-use std::rc::Rc;
 
-/// How many pairs of numbers are remembered at once.
-const REMEMBERED: usize = 128;
+/// The most pairs of numbers that are remembered at once.
+const MOST: usize = 65_536;
 
 /// The numbers that two lists have at a rank.
 #[derive(Clone, Copy)]
@@ -22,27 +21,45 @@ pub struct Joint {
     pub rank: u64,
 }
 
-/// The joints that came so far, and where some of them stand.
+/// The joints that came so far, and where they stand by their numbers.
 #[derive(Drop)]
-struct Numbering {
+pub struct Numbering {
     joints: Vec<Joint>,
-    places: [usize; REMEMBERED],
+    places: Vec<usize>,
+    width: usize,
 }
 
 /// Two lists of numbers in one, whose numbers are those of the joints.
 #[derive(Drop)]
 pub struct Aligned {
-    pub ranks: Rc<Ranking>,
+    pub ranks: Ranking,
     pub joints: Vec<Joint>,
 }
 
 impl Numbering {
-    fn new(alloc: Global) -> Numbering
-        ensures { result.joints.items ≡ [] }
+    /// No joints yet; there are so many first and second numbers.
+    pub fn new(alloc: Global, firsts: usize, seconds: usize) -> Result<Numbering, Memory>
+        ensures { IfOk result (λ n. n.joints.items ≡ []) }
     {
-        Numbering {
+        let pairs = firsts.saturating_mul(seconds).min(MOST);
+        let places = vec![in alloc; 0; pairs]?;
+        Ok(Numbering {
             joints: Vec::new(alloc),
-            places: [0; REMEMBERED],
+            places,
+            width: seconds,
+        })
+    }
+
+    /// Where the place of a joint with these numbers is remembered.
+    fn slot_of(&self, joint: Joint) -> usize {
+        let slot = joint
+            .first
+            .wrapping_mul(self.width)
+            .wrapping_add(joint.second);
+        if slot < self.places.len() {
+            slot
+        } else {
+            slot % MOST
         }
     }
 
@@ -50,14 +67,24 @@ impl Numbering {
     fn number(&mut self, joint: Joint) -> Result<usize, Memory>
         ensures { IfOk result (Numbered self.old.joints.items joint self.new.joints.items) }
     {
-        let slot = joint.first.wrapping_mul(16).wrapping_add(joint.second) % REMEMBERED;
+        let slot = self.slot_of(joint);
+        if slot >= self.places.len() {
+            return self.further(joint);
+        }
         let place = self.places[slot];
         if has_numbers(self.joints.as_slice(), place, joint) {
             return Ok(place);
         }
+        self.places[slot] = self.joints.len();
+        self.further(joint)
+    }
+
+    /// The number of a joint that goes last.
+    fn further(&mut self, joint: Joint) -> Result<usize, Memory>
+        ensures { IfOk result (Numbered self.old.joints.items joint self.new.joints.items) }
+    {
         let place = self.joints.len();
         self.joints.push(joint)?;
-        self.places[slot] = place;
         Ok(place)
     }
 }
@@ -80,21 +107,27 @@ fn next_place(place: usize, run: Run, rank: u64) -> usize
     if run.end == rank { place + 1 } else { place }
 }
 
-/// Both lists at once: their numbers at a rank are those of the joint that the runs have there.
-pub fn align(alloc: Global, a: &Ranking, b: &Ranking) -> Result<Aligned, Memory>
+/// Both lists of runs at once.
+fn align_runs(
+    alloc: Global,
+    a: &[Run],
+    b: &[Run],
+    numbering: Numbering,
+) -> Result<Aligned, Memory>
     requires rise_a { RiseFrom 0 a.now }
     requires rise_b { RiseFrom 0 b.now }
     requires ends { end_from 0 a.now ≡ end_from 0 b.now }
-    ensures { IfOk result (λ z. IsAligned a.now b.now z.ranks.value z.joints.items) }
+    requires fresh { numbering.joints.items ≡ [] }
+    ensures { IfOk result (λ z. IsAligned a.now b.now z.ranks z.joints.items) }
 {
-    let mut numbering = Numbering::new(alloc);
-    let mut ranks = Ranking::new(alloc, a.is_packed() || b.is_packed());
+    let mut numbering = numbering;
+    let mut runs = Vec::with_capacity(alloc, a.len().max(b.len()))?;
     let mut rank = 0;
     let mut i = 0;
     let mut j = 0;
     while i < a.len() && j < b.len() {
-        let first = a.run(i);
-        let second = b.run(j);
+        let first = a[i];
+        let second = b[j];
         let joint = Joint {
             first: first.link,
             second: second.link,
@@ -102,12 +135,102 @@ pub fn align(alloc: Global, a: &Ranking, b: &Ranking) -> Result<Aligned, Memory>
         };
         let number = numbering.number(joint)?;
         let end = first.end.min(second.end);
-        ranks.extend(Run { end, link: number })?;
+        extend(&mut runs, Run { end, link: number })?;
         rank = end;
         i = next_place(i, first, end);
         j = next_place(j, second, end);
     }
-    let Numbering { joints, places: _ } = numbering;
-    let ranks = Rc::new(alloc, ranks)?;
+    let Numbering { joints, .. } = numbering;
+    let ranks = Ranking::from_runs(alloc, runs);
     Ok(Aligned { ranks, joints })
+}
+
+/// Both lists of bytes at once, where a byte can tell each joint.
+fn align_bytes(
+    alloc: Global,
+    a: &[u8],
+    b: &[u8],
+    numbering: Numbering,
+) -> Result<Option<Aligned>, Memory>
+    requires many { length a.now ≡ length b.now }
+    requires fresh { numbering.joints.items ≡ [] }
+    ensures { IfOk result (λ found. IfSome found (λ z. IsAligned (unit_runs 0 a.now) (unit_runs 0 b.now) z.ranks z.joints.items)) }
+{
+    let mut numbering = numbering;
+    let mut bytes = Vec::with_capacity(alloc, a.len())?;
+    for i in 0..a.len() {
+        let joint = Joint {
+            first: a[i] as usize,
+            second: b[i] as usize,
+            rank: i as u64,
+        };
+        let number = numbering.number(joint)?;
+        if number > 255 {
+            return Ok(None);
+        }
+        bytes.push(number as u8)?;
+    }
+    let Numbering { joints, .. } = numbering;
+    let ranks = Ranking::from_bytes(alloc, bytes);
+    Ok(Some(Aligned { ranks, joints }))
+}
+
+/// Both lists at once, a byte for each rank, where bytes can tell all numbers.
+fn align_packed(
+    alloc: Global,
+    a: &Ranking,
+    b: &Ranking,
+    numbering: Numbering,
+) -> Result<Option<Aligned>, Memory>
+    requires ends { end_from 0 a.now ≡ end_from 0 b.now }
+    requires fresh { numbering.joints.items ≡ [] }
+    ensures { IfOk result (λ found. IfSome found (λ z. IsAligned a.now b.now z.ranks z.joints.items)) }
+{
+    let Some(first) = a.to_bytes()? else {
+        return Ok(None);
+    };
+    let Some(second) = b.to_bytes()? else {
+        return Ok(None);
+    };
+    align_bytes(alloc, first.as_slice(), second.as_slice(), numbering)
+}
+
+/// Both lists at once, where runs tell all numbers.
+fn align_unpacked(
+    alloc: Global,
+    a: &Ranking,
+    b: &Ranking,
+    numbering: Numbering,
+) -> Result<Aligned, Memory>
+    requires ends { end_from 0 a.now ≡ end_from 0 b.now }
+    requires fresh { numbering.joints.items ≡ [] }
+    ensures { IfOk result (λ z. IsAligned a.now b.now z.ranks z.joints.items) }
+{
+    let first = a.to_runs()?;
+    let second = b.to_runs()?;
+    align_runs(alloc, first.as_slice(), second.as_slice(), numbering)
+}
+
+/// Both lists at once, of so many numbers each: their numbers at a rank are those of the joint that stands there.
+pub fn align(
+    alloc: Global,
+    a: &Ranking,
+    b: &Ranking,
+    firsts: usize,
+    seconds: usize,
+) -> Result<Aligned, Memory>
+    requires rise_a { RiseFrom 0 a.now }
+    requires rise_b { RiseFrom 0 b.now }
+    requires ends { end_from 0 a.now ≡ end_from 0 b.now }
+    ensures { IfOk result (λ z. IsAligned a.now b.now z.ranks z.joints.items) }
+{
+    let numbering = Numbering::new(alloc, firsts, seconds)?;
+    if let (Some(first), Some(second)) = (a.as_runs(), b.as_runs()) {
+        return align_runs(alloc, first, second, numbering);
+    }
+    if let Some(aligned) = align_packed(alloc, a, b, numbering)? {
+        return Ok(aligned);
+    }
+    let numbering = Numbering::new(alloc, firsts, seconds)?;
+    align_unpacked(alloc, a, b, numbering)
 }

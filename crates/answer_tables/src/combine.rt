@@ -122,7 +122,13 @@ fn combine_ranks(
     ensures stored { IfOk result (λ t. LinksAreIn t store.new) }
     ensures grown { Extends store.old store.new }
 {
-    let aligned = align(alloc, a.ranks.as_ref(), b.ranks.as_ref())?;
+    let aligned = align(
+        alloc,
+        a.ranks.as_ref(),
+        b.ranks.as_ref(),
+        a.links.len(),
+        b.links.len(),
+    )?;
     let links = combined_links(
         alloc,
         operation,
@@ -131,7 +137,7 @@ fn combine_ranks(
         aligned.joints.as_slice(),
         store,
     )?;
-    Table::from_ranking(alloc, a.slots, a.arity, links.as_slice(), &aligned.ranks)
+    Table::from_aligned(alloc, a.slots, a.arity, links.as_slice(), aligned.ranks)
 }
 
 /// The table of the combined chains. Where one table has one chain, no rank is read.

@@ -1,23 +1,23 @@
 //! Numbers for all ranks below an end.
 
-ghost use Rattle.std.specs.Prelude.{◌≡◌, ◌<◌, ◌+◌, ◌++◌, ◌^◌, [], IfOk, OnOk, length, slice_index_or};
-ghost use Rattle.answer_tables.specs.Runs.{Extended, RiseFrom, end_from, link_at, unit_runs};
+ghost use Rattle.std.specs.Prelude.{◌≡◌, ◌≤◌, ◌<◌, ◌^◌, IfOk, IfSome, length, slice_index_or};
+ghost use Rattle.answer_tables.specs.Runs.{AreAlike, RiseFrom, end_from, link_at, unit_runs};
 
 use crate::Memory;
 use crate::run::{Run, end_of, extend, link_of};
 use std::alloc::Global;
 use std::marker::Model;
 
-/// Numbers for the ranks below an end, seen as runs. Where runs are short, a byte for each rank tells a run of one rank.
+/// Numbers for the ranks below an end, seen as runs: runs up to a start, and from there a byte for each rank, which tells a run of one rank.
 #[derive(Drop)]
 pub struct Ranking {
     pub(crate) runs: Vec<Run>,
+    start: u64,
     pub(crate) bytes: Vec<u8>,
-    packed: bool,
 }
 
 impl Model for Ranking {
-    ghost use Rattle.std.specs.Prelude.{List, ◌++◌, ◌+◌, ◌<◌, ◌^◌, length};
+    ghost use Rattle.std.specs.Prelude.{List, ◌≡◌, ◌++◌, ◌+◌, ◌<◌, ◌^◌, length};
     ghost use Rattle.answer_tables.specs.declared.run.Run.{Run};
     ghost use Rattle.answer_tables.specs.Runs.{RiseFrom, end_from, unit_runs};
 
@@ -25,57 +25,74 @@ impl Model for Ranking {
 
     ghost view = { λ r. r.runs.items ++ unit_runs (end_from 0 r.runs.items) r.bytes.items };
 
-    ghost invariant = { λ r. RiseFrom 0 r.runs.items × (end_from 0 r.runs.items + length r.bytes.items < 2 ^ 64) };
+    ghost invariant = { λ r. RiseFrom 0 r.runs.items × (end_from 0 r.runs.items + length r.bytes.items < 2 ^ 64) × (r.start ≡ end_from 0 r.runs.items) };
 }
 
 /// Whether runs take more room than a byte for each rank.
-pub fn is_dense(runs: usize, ranks: u64) -> bool {
+fn is_dense(runs: usize, ranks: u64) -> bool {
     runs as u64 > 8 + ranks / 8
 }
 
-/// The runs, and one more for each byte.
-fn with_units(alloc: Global, runs: &[Run], bytes: &[u8]) -> Result<Vec<Run>, Memory>
-    requires { end_from 0 runs.now + length bytes.now < 2 ^ 64 }
-    ensures { IfOk result (λ all. all.items ≡ runs.now ++ unit_runs (end_from 0 runs.now) bytes.now) }
+/// How often a byte differs from the one before.
+fn count_changes(bytes: &[u8]) -> usize
+    ensures { result ≤ length bytes.now }
 {
-    let mut all = Vec::with_capacity(alloc, runs.len())?;
-    all.extend_from_slice(runs)?;
-    let mut end = end_of(runs);
+    let mut count = 0;
+    let mut last = 0;
     for byte in bytes {
-        end += 1;
-        let link = *byte as usize;
-        all.push(Run { end, link })?;
+        if *byte != last {
+            count += 1;
+        }
+        last = *byte;
     }
-    Ok(all)
+    count
 }
 
 impl Ranking {
-    /// No ranks yet; those to come get a byte each where they are to be packed.
-    pub fn new(alloc: Global, packed: bool) -> Ranking
-        ensures { result ≡ [] }
+    /// The numbers that runs tell.
+    pub fn from_runs(alloc: Global, runs: Vec<Run>) -> Ranking
+        requires { RiseFrom 0 runs.items }
+        ensures { result ≡ runs.items }
     {
+        let start = end_of(runs.as_slice());
         Ranking {
-            runs: Vec::new(alloc),
+            runs,
+            start,
             bytes: Vec::new(alloc),
-            packed,
         }
     }
 
-    /// The runs.
-    pub fn runs(&self, alloc: Global) -> Result<Vec<Run>, Memory>
-        ensures { IfOk result (λ runs. runs.items ≡ self.now) }
+    /// The numbers that bytes tell, one for each rank.
+    pub fn from_bytes(alloc: Global, bytes: Vec<u8>) -> Ranking
+        ensures { result ≡ unit_runs 0 bytes.items }
     {
-        with_units(alloc, self.runs.as_slice(), self.bytes.as_slice())
+        Ranking {
+            runs: Vec::new(alloc),
+            start: 0,
+            bytes,
+        }
     }
 
-    /// Whether the ranks take as little room as they can with numbers below a limit.
-    pub fn is_small(&self, limit: usize) -> bool {
-        self.packed || limit > 256 || !is_dense(self.runs.len(), self.end())
+    /// The runs, where no rank has a byte.
+    pub fn as_runs(&self) -> Option<&[Run]>
+        ensures { IfSome result (λ runs. runs.now ≡ self.now) }
+    {
+        if self.bytes.is_empty() {
+            Some(self.runs.as_slice())
+        } else {
+            None
+        }
     }
 
-    /// Whether ranks get a byte each.
-    pub fn is_packed(&self) -> bool {
-        self.packed
+    /// The bytes, where each rank has one.
+    pub fn as_bytes(&self) -> Option<&[u8]>
+        ensures { IfSome result (λ bytes. unit_runs 0 bytes.now ≡ self.now) }
+    {
+        if self.runs.is_empty() {
+            Some(self.bytes.as_slice())
+        } else {
+            None
+        }
     }
 
     /// How many runs there are.
@@ -89,7 +106,7 @@ impl Ranking {
     pub fn end(&self) -> u64
         ensures { result ≡ end_from 0 self.now }
     {
-        end_of(self.runs.as_slice()) + self.bytes.len() as u64
+        self.start + self.bytes.len() as u64
     }
 
     /// The run at a place.
@@ -102,7 +119,7 @@ impl Ranking {
             return self.runs[place];
         }
         let further = place - before;
-        let end = end_of(self.runs.as_slice()) + further as u64 + 1;
+        let end = self.start + further as u64 + 1;
         let link = self.bytes[further] as usize;
         Run { end, link }
     }
@@ -112,37 +129,58 @@ impl Ranking {
         requires { rank < end_from 0 self.now }
         ensures { result ≡ link_at self.now rank }
     {
-        let start = end_of(self.runs.as_slice());
-        if rank < start {
+        if rank < self.start {
             return link_of(self.runs.as_slice(), rank);
         }
-        self.bytes[(rank - start) as usize] as usize
+        self.bytes[(rank - self.start) as usize] as usize
     }
 
-    /// Gives the next ranks, up to the run's end, its link.
-    pub fn extend(&mut self, run: Run) -> Result<(), Memory>
-        requires { end_from 0 self.old < run.end }
-        ensures { OnOk result (Extended self.old run self.new) }
+    /// Runs of the same numbers, as few as there can be.
+    pub fn to_runs(&self) -> Result<Vec<Run>, Memory>
+        ensures { IfOk result (λ runs. AreAlike self.now runs.items) }
     {
-        if self.packed && run.link < 256 {
-            let more = run.end - self.end();
-            if more == 1 {
-                self.bytes.push(run.link as u8)?;
-                return Ok(());
+        let mut runs = Vec::new(*self.runs.allocator());
+        for place in 0..self.len() {
+            extend(&mut runs, self.run(place))?;
+        }
+        Ok(runs)
+    }
+
+    /// A byte for each rank, where one can tell each number.
+    pub fn to_bytes(&self) -> Result<Option<Vec<u8>>, Memory>
+        ensures { IfOk result (λ found. IfSome found (λ bytes. AreAlike self.now (unit_runs 0 bytes.items))) }
+    {
+        let mut bytes = Vec::new(*self.bytes.allocator());
+        if let Some(own) = self.as_bytes() {
+            bytes.extend_from_slice(own)?;
+            return Ok(Some(bytes));
+        }
+        for place in 0..self.len() {
+            let run = self.run(place);
+            if run.link > 255 {
+                return Ok(None);
             }
-            let count = self.bytes.len() + more as usize;
-            self.bytes.resize(count, run.link as u8)?;
-            return Ok(());
+            bytes.resize(run.end as usize, run.link as u8)?;
         }
-        if self.bytes.is_empty() {
-            return extend(&mut self.runs, run);
+        Ok(Some(bytes))
+    }
+
+    /// The same numbers, told by what takes less room.
+    pub fn settled(self) -> Result<Ranking, Memory>
+        ensures { IfOk result (AreAlike self) }
+    {
+        let count = self.runs.len() + count_changes(self.bytes.as_slice());
+        let dense = is_dense(count, self.end());
+        if dense != self.bytes.is_empty() {
+            return Ok(self);
         }
-        let alloc = *self.runs.allocator();
-        let mut runs = with_units(alloc, self.runs.as_slice(), self.bytes.as_slice())?;
-        extend(&mut runs, run)?;
-        self.runs = runs;
-        self.bytes = Vec::new(alloc);
-        self.packed = false;
-        Ok(())
+        if !dense {
+            let runs = self.to_runs()?;
+            return Ok(Ranking::from_runs(*self.bytes.allocator(), runs));
+        }
+        match self.to_bytes()? {
+            Some(bytes) => Ok(Ranking::from_bytes(*self.runs.allocator(), bytes)),
+            None => Ok(self),
+        }
     }
 }

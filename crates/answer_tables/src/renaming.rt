@@ -1,13 +1,13 @@
 //! Links numbered anew, each chain once.
 
-ghost use Rattle.std.specs.Prelude.{◌≡◌, ◌<◌, ◌≤◌, ℕ, IfOk, length, slice_index, true};
+ghost use Rattle.std.specs.Prelude.{◌≡◌, ◌<◌, ℕ, IfOk, IfSome, length, slice_index, true};
 ghost use Rattle.formula_store.specs.Interned.{AreDistinct};
-ghost use Rattle.answer_tables.specs.Runs.{RiseFrom, NamedBelow};
+ghost use Rattle.answer_tables.specs.Runs.{RiseFrom, NamedBelow, unit_runs};
 ghost use Rattle.answer_tables.specs.Renaming.{ArePlaces, AreRenamed};
 
 use crate::Memory;
-use crate::ranking::{Ranking, is_dense};
-use crate::run::{Run, end_of};
+use crate::ranking::Ranking;
+use crate::run::{Run, extend};
 use formula_store::Link;
 use indexmap::IndexSet;
 use std::alloc::Global;
@@ -46,20 +46,6 @@ pub fn each_once(alloc: Global, links: &[Link]) -> Result<Once, Memory>
     Ok(Once { links, places })
 }
 
-/// The same runs, each link's number replaced by its place.
-pub fn renamed(alloc: Global, runs: &[Run], places: &[usize]) -> Result<Ranking, Memory>
-    requires rise { RiseFrom 0 runs.now }
-    requires named { NamedBelow (length places.now) runs.now }
-    ensures { IfOk result (λ new. AreRenamed places.now runs.now new) }
-{
-    let mut new = Ranking::new(alloc, is_dense(runs.len(), end_of(runs)));
-    for run in runs {
-        let link = places[run.link];
-        new.extend(Run { end: run.end, link })?;
-    }
-    Ok(new)
-}
-
 /// Whether each number is its own place.
 fn are_own(places: &[usize]) -> bool
     ensures { result ≡ true → (i : ℕ) → i < length places.now → slice_index places.now i ≡ i }
@@ -72,25 +58,54 @@ fn are_own(places: &[usize]) -> bool
     true
 }
 
-/// How many runs there are once each number is replaced by its place.
-fn count_runs(ranks: &Ranking, places: &[usize]) -> usize
-    requires named { NamedBelow (length places.now) ranks.now }
-    ensures { result ≤ length ranks.now }
+/// The same runs, each number replaced by its place.
+pub fn renamed(alloc: Global, runs: &[Run], places: &[usize]) -> Result<Vec<Run>, Memory>
+    requires rise { RiseFrom 0 runs.now }
+    requires named { NamedBelow (length places.now) runs.now }
+    ensures { IfOk result (λ new. AreRenamed places.now runs.now new.items) }
 {
-    let mut count = 0;
-    let mut last = usize::MAX;
-    for i in 0..ranks.len() {
-        let link = places[ranks.run(i).link];
-        if link != last {
-            count += 1;
-        }
-        last = link;
+    let mut new = Vec::with_capacity(alloc, runs.len())?;
+    for run in runs {
+        let link = places[run.link];
+        extend(&mut new, Run { end: run.end, link })?;
     }
-    count
+    Ok(new)
+}
+
+/// The same bytes, each number replaced by its place, where bytes can tell all places that are met.
+fn renamed_bytes(alloc: Global, bytes: &[u8], places: &[usize]) -> Result<Option<Vec<u8>>, Memory>
+    requires named { NamedBelow (length places.now) (unit_runs 0 bytes.now) }
+    ensures { IfOk result (λ found. IfSome found (λ new. AreRenamed places.now (unit_runs 0 bytes.now) (unit_runs 0 new.items))) }
+{
+    let mut new = Vec::with_capacity(alloc, bytes.len())?;
+    for byte in bytes {
+        let place = places[*byte as usize];
+        if place > 255 {
+            return Ok(None);
+        }
+        new.push(place as u8)?;
+    }
+    Ok(Some(new))
+}
+
+/// The same ranks, each number replaced by its place.
+fn replaced(alloc: Global, ranks: &Ranking, places: &[usize]) -> Result<Ranking, Memory>
+    requires rise { RiseFrom 0 ranks.now }
+    requires named { NamedBelow (length places.now) ranks.now }
+    ensures { IfOk result (AreRenamed places.now ranks.now) }
+{
+    if let Some(bytes) = ranks.as_bytes() {
+        if let Some(new) = renamed_bytes(alloc, bytes, places)? {
+            return Ranking::from_bytes(alloc, new).settled();
+        }
+    }
+    let runs = ranks.to_runs()?;
+    let new = renamed(alloc, runs.as_slice(), places)?;
+    Ranking::from_runs(alloc, new).settled()
 }
 
 /// The same ranks, shared.
-pub fn share(ranks: &Rc<Ranking>) -> Result<Rc<Ranking>, Memory>
+fn share(ranks: &Rc<Ranking>) -> Result<Rc<Ranking>, Memory>
     ensures { IfOk result (λ same. same.value ≡ ranks.now.value) }
 {
     let same = ranks.clone()?;
@@ -107,16 +122,22 @@ pub fn renumbered(
     requires named { NamedBelow (length places.now) ranks.now.value }
     ensures { IfOk result (λ new. AreRenamed places.now ranks.now.value new.value) }
 {
-    if are_own(places) && ranks.is_small(places.len()) {
+    if are_own(places) {
         return share(ranks);
     }
-    let packed = is_dense(count_runs(ranks.as_ref(), places), ranks.end());
-    let mut new = Ranking::new(alloc, packed);
-    for i in 0..ranks.len() {
-        let run = ranks.run(i);
-        let link = places[run.link];
-        new.extend(Run { end: run.end, link })?;
-    }
+    let new = replaced(alloc, ranks.as_ref(), places)?;
     let new = Rc::new(alloc, new)?;
     Ok(new)
+}
+
+/// Ranks of a new table, each number replaced by its place.
+pub fn settled(alloc: Global, ranks: Ranking, places: &[usize]) -> Result<Ranking, Memory>
+    requires rise { RiseFrom 0 ranks }
+    requires named { NamedBelow (length places.now) ranks }
+    ensures { IfOk result (AreRenamed places.now ranks) }
+{
+    if are_own(places) {
+        return ranks.settled();
+    }
+    replaced(alloc, &ranks, places)
 }

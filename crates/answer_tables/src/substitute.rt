@@ -21,11 +21,25 @@ use std::alloc::Global;
 /// All tables at once: where the runs have one number, each table has one chain.
 fn align_all(alloc: Global, table: &Table, values: &[Table]) -> Result<Aligned, Memory>
     requires { HaveShape table.now.slots table.now.arity values.now }
-    ensures { IfOk result (λ a. TellAll table.now.slots table.now.arity table.now values.now a.ranks.value a.joints.items) }
+    ensures { IfOk result (λ a. TellAll table.now.slots table.now.arity table.now values.now a.ranks a.joints.items) }
 {
-    let mut aligned = align(alloc, table.ranks.as_ref(), table.ranks.as_ref())?;
+    let many = table.links.len();
+    let mut aligned = align(
+        alloc,
+        table.ranks.as_ref(),
+        table.ranks.as_ref(),
+        many,
+        many,
+    )?;
     for value in values {
-        aligned = align(alloc, aligned.ranks.as_ref(), value.ranks.as_ref())?;
+        let many = aligned.joints.len();
+        aligned = align(
+            alloc,
+            &aligned.ranks,
+            value.ranks.as_ref(),
+            many,
+            value.links.len(),
+        )?;
     }
     Ok(aligned)
 }
@@ -150,12 +164,12 @@ fn substitute_ranks(
 {
     let aligned = align_all(alloc, table, values)?;
     let links = substituted_links(alloc, table, values, aligned.joints.as_slice(), store)?;
-    Table::from_ranking(
+    Table::from_aligned(
         alloc,
         table.slots,
         table.arity,
         links.as_slice(),
-        &aligned.ranks,
+        aligned.ranks,
     )
 }
 

@@ -7,7 +7,7 @@ ghost use Rattle.answer_tables.specs.Table.{Chains, AreRuns, AreUsed, HasChain, 
 
 use crate::Memory;
 use crate::ranking::Ranking;
-use crate::renaming::{copies, each_once, renamed, renumbered};
+use crate::renaming::{copies, each_once, renamed, renumbered, settled};
 use crate::run::Run;
 use dl_syntax::IndId;
 use formula_store::Link;
@@ -84,7 +84,31 @@ impl Table {
         ensures { IfOk result (λ t. t ≡ view_of slots arity links.now runs.now) }
     {
         let once = each_once(alloc, links)?;
-        let ranks = renamed(alloc, runs, once.places.as_slice())?;
+        let runs = renamed(alloc, runs, once.places.as_slice())?;
+        let ranks = Ranking::from_runs(alloc, runs).settled()?;
+        let ranks = Rc::new(alloc, ranks)?;
+        Ok(Table {
+            slots,
+            arity,
+            links: once.links,
+            ranks,
+        })
+    }
+
+    /// The table of new numbers for all ranks.
+    pub(crate) fn from_aligned(
+        alloc: Global,
+        slots: u32,
+        arity: u8,
+        links: &[Link],
+        ranks: Ranking,
+    ) -> Result<Table, Memory>
+        requires are { AreRuns slots arity links.now ranks }
+        requires used { AreUsed (slots ^ arity) (length links.now) ranks }
+        ensures { IfOk result (λ t. t ≡ view_of slots arity links.now ranks) }
+    {
+        let once = each_once(alloc, links)?;
+        let ranks = settled(alloc, ranks, once.places.as_slice())?;
         let ranks = Rc::new(alloc, ranks)?;
         Ok(Table {
             slots,

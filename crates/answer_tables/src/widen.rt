@@ -36,7 +36,7 @@ impl Table {
         ensures old { IfOk result (λ t. (tuple : List IndId) → IsTuple self.now.slots self.now.arity tuple → at t tuple ≡ at self.now tuple) }
     {
         let weights = weights_of_places(alloc, self.slots, self.arity)?;
-        let old = self.ranks.runs(alloc)?;
+        let old = self.ranks.to_runs()?;
         let mut runs = Vec::new(alloc);
         spread(
             old.as_slice(),

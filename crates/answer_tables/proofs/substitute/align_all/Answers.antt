@@ -10,7 +10,7 @@ use Rattle.answer_tables.proofs.substitute.align_all.Goals as goal
 pub loop-value-init : goal.loop-value-init
 loop-value-init c =
     let rt = c.table.inside.ranks.value in
-    let runs = c.in_ok-aligned.aligned.ranks.value in
+    let runs = c.in_ok-aligned.aligned.ranks in
     let joints = c.in_ok-aligned.aligned.joints.items in
     let aligned : IsAligned rt rt runs joints = subst (λ (r : List Run). IsAligned r rt runs joints) c.as_ref.ensures (subst (λ (r : List Run). IsAligned c.as_ref.result.now r runs joints) c.as_ref-2.ensures c.in_ok-aligned.ensures) in
     TellAll-start c.args.table.now c.table.inside.slots c.table.inside.arity c.table.inside.links.items rt runs joints c.table.view_is c.table.invariant.are aligned
@@ -21,13 +21,12 @@ loop-value-preserved c =
     let i = c.loop-value.value-index in
     let within = c.loop-value-test.true in
     let item : Chains = c.value-item.result in
-    let a = c.loop-value.aligned.ranks.value in
+    let a = c.loop-value.aligned.ranks in
     let rv = c.value.inside.ranks.value in
-    let runs = c.in_ok-aligned-2.aligned.ranks.value in
+    let runs = c.in_ok-aligned-2.aligned.ranks in
     let joints = c.in_ok-aligned-2.aligned.joints.items in
     let aligned : IsAligned a rv runs joints =
-    subst (λ (r : List Run). IsAligned r rv runs joints) c.as_ref-in-loop-value.ensures
-    (subst (λ (r : List Run). IsAligned c.as_ref-in-loop-value.result.now r runs joints) c.as_ref-in-loop-value-2.ensures c.in_ok-aligned-2.ensures) in
+    subst (λ (r : List Run). IsAligned a r runs joints) c.as_ref-in-loop-value.ensures c.in_ok-aligned-2.ensures in
     let longer : take (i + 1) values ≡ take i values ++ item ∷ [] = take_more values i item within ∙ ap (λ (v : Chains). take i values ++ v ∷ []) (sym c.value-item.is) in
     let shape : (item.slots ≡ c.args.table.now.slots) × (item.arity ≡ c.args.table.now.arity) =
     subst (λ (v : Chains). (v.slots ≡ c.args.table.now.slots) × (v.arity ≡ c.args.table.now.arity)) (sym c.value-item.is) (c.requires i item within) in

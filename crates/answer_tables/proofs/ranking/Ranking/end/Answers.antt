@@ -7,6 +7,5 @@ use Rattle.answer_tables.proofs.ranking.Ranking.end.Goals as goal
 pub returns : goal.returns
 returns c =
     let bytes : vec_len c.self.inside.bytes ≡ length c.self.inside.bytes.items = search rules in
-    let start = ap (λ (rs : List Run). end_from 0 rs) c.as_slice.ensures.value in
     let seen = ap (λ (rs : List Run). end_from 0 rs) c.self.view_is in
-    omega (arith, bytes, start, seen, c.end_of.ensures, whole_end c.self.inside.runs.items c.self.inside.bytes.items)
+    omega (arith, bytes, seen, c.self.invariant.2, whole_end c.self.inside.runs.items c.self.inside.bytes.items)
