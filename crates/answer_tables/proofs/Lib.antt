@@ -2,6 +2,7 @@ mod Runs
 mod UnitRuns
 mod Aligning
 mod Bytes
+mod Codings
 mod Numbers
 mod Views
 mod Renamings

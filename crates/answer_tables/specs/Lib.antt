@@ -4,6 +4,7 @@ pub mod Numbering
 pub mod Tuples
 pub mod Table
 pub mod Renaming
+pub mod Coding
 pub mod Combining
 pub mod Counts
 pub mod Substituting

@@ -4,8 +4,10 @@ ghost use Rattle.std.specs.Prelude.{◌≡◌, ◌<◌, ◌+◌, ◌-◌, ◌^�
 ghost use Rattle.answer_tables.specs.Runs.{RiseFrom, end_from, unit_runs};
 ghost use Rattle.answer_tables.specs.Joint.{IsAligned, joint_at};
 ghost use Rattle.answer_tables.specs.Numbering.{Numbered};
+ghost use Rattle.answer_tables.specs.Coding.{IsCoding};
 
 use crate::Memory;
+use crate::coding::Coding;
 use crate::ranking::Ranking;
 use crate::run::{Run, extend};
 use std::alloc::Global;
@@ -150,27 +152,22 @@ fn align_bytes(
     alloc: Global,
     a: &[u8],
     b: &[u8],
-    numbering: Numbering,
+    coding: Coding,
 ) -> Result<Option<Aligned>, Memory>
     requires many { length a.now ≡ length b.now }
-    requires fresh { numbering.joints.items ≡ [] }
+    requires fresh { coding.joints.items ≡ [] }
+    requires coding { IsCoding coding.joints.items coding.codes.items coding.width }
     ensures { IfOk result (λ found. IfSome found (λ z. IsAligned (unit_runs 0 a.now) (unit_runs 0 b.now) z.ranks z.joints.items)) }
 {
-    let mut numbering = numbering;
+    let mut coding = coding;
     let mut bytes = Vec::with_capacity(alloc, a.len())?;
     for i in 0..a.len() {
-        let joint = Joint {
-            first: a[i] as usize,
-            second: b[i] as usize,
-            rank: i as u64,
-        };
-        let number = numbering.number(joint)?;
-        if number > 255 {
+        let Some(byte) = coding.byte(a[i], b[i], i as u64)? else {
             return Ok(None);
-        }
-        bytes.push(number as u8)?;
+        };
+        bytes.push(byte)?;
     }
-    let Numbering { joints, .. } = numbering;
+    let Coding { joints, .. } = coding;
     let ranks = Ranking::from_bytes(alloc, bytes);
     Ok(Some(Aligned { ranks, joints }))
 }
@@ -180,10 +177,10 @@ fn align_packed(
     alloc: Global,
     a: &Ranking,
     b: &Ranking,
-    numbering: Numbering,
+    firsts: usize,
+    seconds: usize,
 ) -> Result<Option<Aligned>, Memory>
     requires ends { end_from 0 a.now ≡ end_from 0 b.now }
-    requires fresh { numbering.joints.items ≡ [] }
     ensures { IfOk result (λ found. IfSome found (λ z. IsAligned a.now b.now z.ranks z.joints.items)) }
 {
     let Some(first) = a.to_bytes()? else {
@@ -192,7 +189,8 @@ fn align_packed(
     let Some(second) = b.to_bytes()? else {
         return Ok(None);
     };
-    align_bytes(alloc, first.as_slice(), second.as_slice(), numbering)
+    let coding = Coding::new(alloc, firsts, seconds)?;
+    align_bytes(alloc, first.as_slice(), second.as_slice(), coding)
 }
 
 /// Both lists at once, where runs tell all numbers.
@@ -224,11 +222,11 @@ pub fn align(
     requires ends { end_from 0 a.now ≡ end_from 0 b.now }
     ensures { IfOk result (λ z. IsAligned a.now b.now z.ranks z.joints.items) }
 {
-    let numbering = Numbering::new(alloc, firsts, seconds)?;
     if let (Some(first), Some(second)) = (a.as_runs(), b.as_runs()) {
+        let numbering = Numbering::new(alloc, firsts, seconds)?;
         return align_runs(alloc, first, second, numbering);
     }
-    if let Some(aligned) = align_packed(alloc, a, b, numbering)? {
+    if let Some(aligned) = align_packed(alloc, a, b, firsts, seconds)? {
         return Ok(aligned);
     }
     let numbering = Numbering::new(alloc, firsts, seconds)?;

@@ -2,6 +2,7 @@
 #![tactic(auto)]
 
 mod align;
+mod coding;
 mod combine;
 mod counts;
 mod holding;

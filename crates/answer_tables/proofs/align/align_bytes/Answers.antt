@@ -1,7 +1,10 @@
-use Rattle.std.proofs.Common.{◌≡◌, ℕ, List, ◌∷◌, [], ◌++◌, length, ◌+◌, length-append, sym, ◌∙◌, ap, subst, arith, inl}
+use Rattle.std.proofs.Common.{◌≡◌, ℕ, List, Option, get_or, ◌∷◌, [], ◌++◌, length, ◌+◌, length-append, sym, ◌∙◌, ap, subst, arith, inl}
 use Rattle.answer_tables.specs.declared.run.Run.{Run}
 use Rattle.answer_tables.specs.declared.align.Joint.{Joint}
 use Rattle.answer_tables.specs.Runs.{unit_runs}
+use Rattle.std.specs.Prelude.{IfSome}
+use Rattle.answer_tables.specs.Coding.{IsCoding}
+use Rattle.answer_tables.specs.Numbering.{Numbered}
 use Rattle.answer_tables.specs.Joint.{IsAligned}
 use Rattle.answer_tables.proofs.UnitRuns.{length_units, end_unit, rise_unit}
 use Rattle.answer_tables.proofs.Aligning.{Aligning, Aligning-start, IsAligned-end}
@@ -14,8 +17,9 @@ loop-i-init c =
     let b = c.args.b.now in
     let none = c.in_ok-bytes.ensures.items in
     record {
-      aligning = Aligning-start (unit_runs 0 a) (unit_runs 0 b) (unit_runs 0 c.in_ok-bytes.bytes.items) c.args.numbering.joints.items (rise_unit a) (rise_unit b) (end_unit a ∙ c.requires.many ∙ sym (end_unit b)) (ap (unit_runs 0) none) c.requires.fresh;
+      aligning = Aligning-start (unit_runs 0 a) (unit_runs 0 b) (unit_runs 0 c.in_ok-bytes.bytes.items) c.args.coding.joints.items (rise_unit a) (rise_unit b) (end_unit a ∙ c.requires.many ∙ sym (end_unit b)) (ap (unit_runs 0) none) c.requires.fresh;
       many = ap (λ (ns : List ℕ). length ns) none;
+      coding = c.requires.coding;
     }
 
 pub loop-i-preserved : goal.loop-i-preserved
@@ -23,19 +27,22 @@ loop-i-preserved c =
     let a = c.args.a.now in
     let b = c.args.b.now in
     let bytes = c.loop-i.bytes.items in
-    let number = c.in_ok-number.number in
-    let new = c.number.new.self.joints.items in
+    let number = c.in-Some.byte in
+    let joint : Joint = record { first = get_or a c.loop-i.i 0; second = get_or b c.loop-i.i 0; rank = c.loop-i.i } in
+    let numbered : Numbered c.loop-i.coding.joints.items joint c.byte.new.self.joints.items number = subst (λ (o : Option ℕ). IfSome o (Numbered c.loop-i.coding.joints.items joint c.byte.new.self.joints.items)) c.in-Some.is c.in_ok-byte.ensures.numbered in
+    let new = c.byte.new.self.joints.items in
     let pushed = c.in_ok-push.ensures.items in
     record {
       aligning = subst (λ (ns : List ℕ). Aligning (unit_runs 0 a) (unit_runs 0 b) (unit_runs 0 ns) new (c.loop-i.i + 1) (c.loop-i.i + 1) (c.loop-i.i + 1)) (sym pushed)
-          (Aligning-byte a b bytes c.loop-i.numbering.joints.items new c.loop-i.i number c.requires.many c.loop-i.invariant.many (omega arith) c.loop-i.invariant.aligning c.in_ok-number.ensures);
+          (Aligning-byte a b bytes c.loop-i.coding.joints.items new c.loop-i.i number c.requires.many c.loop-i.invariant.many (omega arith) c.loop-i.invariant.aligning numbered);
       many = ap (λ (ns : List ℕ). length ns) pushed ∙ omega (arith, length-append bytes (number ∷ []), c.loop-i.invariant.many);
+      coding = subst (λ (o : Option ℕ). IfSome o (λ x. IsCoding c.byte.new.self.joints.items c.byte.new.self.codes.items c.byte.new.self.width)) c.in-Some.is c.in_ok-byte.ensures.coding;
     }
 
 pub returns : goal.returns
 returns c =
     let a = c.args.a.now in
     let b = c.args.b.now in
-    let joints = c.loop-i.numbering.joints.items in
+    let joints = c.loop-i.coding.joints.items in
     subst (λ (rs : List Run). IsAligned (unit_runs 0 a) (unit_runs 0 b) rs joints) (sym c.from_bytes-ranks.ensures)
     (IsAligned-end (unit_runs 0 a) (unit_runs 0 b) (unit_runs 0 c.loop-i.bytes.items) joints c.loop-i.i c.loop-i.i c.loop-i.i c.loop-i.invariant.aligning (inl (let past = c.loop-i-test.false in omega (arith, past, length_units 0 a))))
