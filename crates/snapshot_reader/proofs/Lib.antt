@@ -8,3 +8,4 @@ pub mod FactsHeard
 pub mod LineWritten
 pub mod JsonFacts
 pub mod RefusedNames
+pub mod PlainLine

@@ -3,4 +3,5 @@ pub mod Said
 pub mod Answers
 pub mod Cursor
 pub mod Hearing
+pub mod Tokens
 pub mod Laws

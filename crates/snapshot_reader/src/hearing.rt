@@ -16,7 +16,7 @@ use dl_syntax::{Fact, Memory, Name, Ontology, Snapshot};
 use std::alloc::Global;
 
 /// The most facts that a line writes, repeats counted.
-const FACT_LIMIT: usize = 65_536;
+pub(crate) const FACT_LIMIT: usize = 65_536;
 
 /// The first name at fault for each cause.
 #[derive(Clone, Copy, Debug)]

@@ -1,4 +1,4 @@
-ghost use Rattle.std.specs.Prelude.{◌≡◌, MatchResult};
+ghost use Rattle.std.specs.Prelude.{◌≡◌, false, MatchResult};
 ghost use Rattle.std.specs.Option.{option_map, option_map_or};
 ghost use Rattle.std.specs.List.{list_all};
 ghost use Rattle.serde_json.specs.View.{view, items_view};
@@ -10,8 +10,10 @@ ghost use Rattle.snapshot_reader.specs.Cursor.{written_seen, name_seen};
 
 use crate::facts::Written;
 use crate::hearing::Heard;
+use crate::plain_lines::hear_plain;
 use crate::{Reading, SnapFault};
 use dl_syntax::{Ontology, is_name};
+use json::{Reader, Scratch};
 use serde_json::Value;
 use std::alloc::Global;
 
@@ -73,7 +75,23 @@ fn value_of(alloc: Global, line: &[u8]) -> Result<Value, SnapFault>
     }
 }
 
-/// What a line in JSON form says.
+/// What a line says that has something to read, by the tree of its value.
+#[tactic(auto, unfolding(crate::specs::Written::json_writes))]
+fn read_tree(alloc: Global, line: &[u8], ontology: &Ontology) -> Result<Reading, SnapFault>
+    requires { list_all is_blank line.now ≡ false }
+    ensures { Tells result (line_says ontology.now (json_writes line.now)) }
+{
+    let value = match value_of(alloc, line) {
+        Ok(value) => value,
+        Err(fault) => return Err(fault),
+    };
+    match value.get("facts").and_then(Value::as_array) {
+        Some(list) => read_list(alloc, list.as_slice(), ontology),
+        None => Err(SnapFault::Malformed),
+    }
+}
+
+/// What a line in JSON form says. A line of the usual form is read without its tree.
 #[tactic(auto, unfolding(crate::specs::Written::json_writes))]
 pub(crate) fn read_json(
     alloc: Global,
@@ -85,12 +103,15 @@ pub(crate) fn read_json(
     if is_blank_line(line) {
         return Ok(Reading::Skip);
     }
-    let value = match value_of(alloc, line) {
-        Ok(value) => value,
-        Err(fault) => return Err(fault),
+    let Ok(text) = std::str::from_utf8(line) else {
+        return Err(SnapFault::Malformed);
     };
-    match value.get("facts").and_then(Value::as_array) {
-        Some(list) => read_list(alloc, list.as_slice(), ontology),
-        None => Err(SnapFault::Malformed),
+    let mut scratch = Scratch::new(alloc);
+    let Ok(mut reader) = Reader::new(text, &mut scratch) else {
+        return Err(SnapFault::Memory);
+    };
+    match hear_plain(alloc, &mut reader, ontology)? {
+        Some(heard) => heard.reading(alloc),
+        None => read_tree(alloc, line, ontology),
     }
 }

@@ -10,6 +10,7 @@ mod json_lines;
 pub mod laws;
 mod lines;
 mod names;
+mod plain_lines;
 
 use dl_syntax::{Memory, Name, Snapshot};
 pub use lines::read_snapshot;
