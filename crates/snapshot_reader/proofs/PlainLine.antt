@@ -1,6 +1,6 @@
 -- The value of a line of the usual form, and its facts.
 use Rattle.std.proofs.Common.{◌≡◌, ℕ, ◌-◌, ◌<◌, ◌≤◌, true, false, List, [], ◌∷◌, ◌++◌, length, refl, sym, ap, ◌∙◌, arith}
-use Rattle.std.specs.Prelude.{Some, codes, option_and_then}
+use Rattle.std.specs.Prelude.{◌<◌, ◌^◌, ◌==◌, nat_lt, slice_index, Some, codes, option_and_then}
 use Rattle.std.specs.List.{All, list_all}
 use Rattle.std.specs.Str.{is_utf8}
 use Rattle.std.proofs.lemmas.List.Elements.{All-head, All-tail}
@@ -8,11 +8,12 @@ use Rattle.json.specs.Token as json
 use Rattle.json.specs.Json as tree
 use Rattle.json.specs.Json.{Json, parse_map, items, members, value, if_last}
 use Rattle.json.proofs.Grammar.{value_is, value-begin_array, value-begin_object, items_more, items_end, members_more, members_end}
-use Rattle.serde_json.specs.Data.{Data, string, array, object, Items, no_items, item, Members, no_members, put}
+use Rattle.fast_float.specs.Text.{Parts, scan, digits_of, IsInteger}
+use Rattle.serde_json.specs.Data.{unsigned, Data, string, array, object, Items, no_items, item, Members, no_members, put}
 use Rattle.serde_json.specs.Find.{get_member}
 use Rattle.json.specs.Lex.{tokens}
 use Rattle.text_scan.specs.Bytes.{is_blank}
-use Rattle.serde_json.specs.Read.{read, of_json, of_items, of_members}
+use Rattle.serde_json.specs.Read.{number_of, is_integer, read, of_json, of_items, of_members}
 use Rattle.serde_json.proofs.Views.{get_member-put, get_member-put_other}
 use Rattle.snapshot_reader.specs.Written.{Written, unary, binary, writes, fact_in, facts_in, facts_of, json_writes, ◌>>=◌}
 use Rattle.snapshot_reader.specs.Tokens.{fact_before, facts_before, IsSpelled, value_in, Passed, IsPassed, members_before, data_of}
@@ -105,6 +106,14 @@ all_facts [] named = refl
 all_facts (w ∷ ws) named = rw (one_fact w (All-head IsSpelled w ws named), all_facts ws (All-tail IsSpelled w ws named)) refl
 
 -- ---- members that are passed over
+
+-- an integer of 64 bits has a value
+pub natural_read : (s : List ℕ) (p : Parts) → (slice_index s 0 == 45) ≡ false → p ≡ scan s → IsInteger p → digits_of p < 2 ^ 64 → number_of s ≡ Some (unsigned (digits_of p))
+unfolding number_of
+natural_read s p unsigned_text is whole small =
+    let integer : is_integer p ≡ true = grind (arith, whole) in
+    let fits : nat_lt (digits_of p) (2 ^ 64) ≡ true = grind (arith, small) in
+    rw (unsigned_text, ← is, integer, fits) refl
 
 abbrev token_tree : json.Token → Json
 token_tree (json.string s) = tree.string s

@@ -1,9 +1,10 @@
 //! A line of the usual form, read token by token. Its facts are lists of names, and each other
-//! member is a text, a truth value or null.
-ghost use Rattle.std.specs.Prelude.{◌≡◌, ◌∷◌, List, true, IsTrue, IfSome, IfOk};
+//! member is a text, a natural number, a truth value or null.
+ghost use Rattle.std.specs.Prelude.{◌≡◌, ◌==◌, ◌∷◌, slice_index, List, true, IsTrue, IfSome, IfOk};
 ghost use Rattle.std.specs.List.{All};
 ghost use Rattle.json.specs.Token.{Token as SpecToken, string, end_array};
-ghost use Rattle.serde_json.specs.Data.{Data};
+ghost use Rattle.serde_json.specs.Data.{Data, Num};
+ghost use Rattle.serde_json.specs.Read.{number_of};
 ghost use Rattle.std.specs.Prelude.{Some};
 ghost use Rattle.snapshot_reader.specs.Written as spec;
 ghost use Rattle.snapshot_reader.specs.Written.{is_name};
@@ -14,6 +15,7 @@ ghost use Rattle.snapshot_reader.specs.Tokens.{fact_before, facts_before, IsSpel
 use crate::facts::Written;
 use crate::hearing::{FACT_LIMIT, Heard};
 use dl_syntax::{Memory, Ontology, is_name};
+use fast_float::Numeral;
 use json::{Reader, Token};
 use std::alloc::Global;
 
@@ -74,6 +76,27 @@ fn next_facts<'r>(
     Ok(None)
 }
 
+/// Whether the first byte is a minus sign.
+fn has_minus(digits: &[u8]) -> bool
+    ensures { result ≡ (slice_index digits.now 0 == 45) }
+{
+    !digits.is_empty() && digits[0] == b'-'
+}
+
+/// Whether the number is an integer from 0 on of at most 64 bits.
+fn is_natural(number: &str) -> bool
+    ensures { IsTrue result → (value : Num) × (number_of number.now ≡ Some value) }
+{
+    let digits = number.as_bytes();
+    if has_minus(digits) {
+        return false;
+    }
+    match Numeral::scan(digits).to_u64() {
+        Some(_) => true,
+        None => false,
+    }
+}
+
 /// Whether the next token is a value by itself.
 #[inline]
 fn pass_value(reader: &mut Reader<'_>) -> bool
@@ -81,6 +104,7 @@ fn pass_value(reader: &mut Reader<'_>) -> bool
 {
     match reader.next() {
         Some(Token::String(_)) => true,
+        Some(Token::Number(number)) => is_natural(number),
         Some(Token::Bool(_)) => true,
         Some(Token::Null) => true,
         _ => false,

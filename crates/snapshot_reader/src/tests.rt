@@ -142,8 +142,12 @@ fn reads_json(rt: HostRuntime) -> Result<(), Fail> {
     let (first, second) = (Element::Ind(IndId(0)), Element::Ind(IndId(1)));
     let failed = [Fact::Concept(ConceptId(0), first)];
     let runs = [Fact::Role(RoleId(0), first, second)];
-    let lines: [&[u8]; 3] = [
+    let lines: [&[u8]; 7] = [
         br#"{"facts":[["Failed","s1"]],"time":"t0"}"#,
+        br#"{"time":17,"facts":[["Failed","s1"]],"late":false,"from":null}"#,
+        br#"{"time":-1.5e3,"facts":[["Failed","s1"]]}"#,
+        br#"{"facts":[["Failed","s1"]],"from":{"facts":[1]}}"#,
+        br#"{"facts":[["Failed","s1"],["Failed","s1"]]}"#,
         br#"{"facts":[["Fail\u0065d","s1"]]}"#,
         br#"{"facts":1,"facts":[["Failed","s1"]]}"#,
     ];
@@ -186,8 +190,12 @@ fn names_the_first_cause_in_json(rt: HostRuntime) -> Result<(), Fail> {
 #[test]
 fn refuses_what_is_no_list_of_facts(rt: HostRuntime) -> Result<(), Fail> {
     let ontology = servers(rt.alloc())?;
-    let lines: [&[u8]; 10] = [
+    let lines: [&[u8]; 14] = [
         br#"{"facts":[["Failed"]]}"#,
+        br#"{"facts":[["Failed","s1"]],"time":1e999}"#,
+        br#"{"facts":[["Failed","s1"]],"time":01}"#,
+        br#"{"facts":[["Failed","s1"]],}"#,
+        br#"{"time":1,"facts":[["Failed","s1"]}"#,
         br#"{"facts":[["runs","s1","s2","s1"]]}"#,
         br#"{"facts":[["Fa iled","s1"]]}"#,
         br#"{"facts":[["Failed","s1"]],"facts":1}"#,
