@@ -74,7 +74,7 @@ module _ (ontology_name queries_name : List ℕ) (before now : Outside) (good : 
         | inl rose ↦ absurd (good.no_file_fault rose)
         | inr lacking ↦ elim lacking [
           | inl lacks ↦ absurd (never_lacks before.held good.files ontology_name o say.ontology_text good.held (there before.held good.files ontology_name say.ontology_text good.held say.ontology_has) one lacks)
-          | inr lacks ↦ absurd (never_lacks before.held good.files queries_name q say.queries_text good.held (there before.held good.files queries_name say.queries_text good.held say.queries_has) two lacks)
+          | inr lacks ↦ absurd (never_lacks before.held good.files queries_name q say.queries_text good.held (there before.held good.files queries_name say.queries_text good.held say.queries_has) two lacks.1)
         ]
       ]
   only_memory Done o q one two refuses = absurd refuses

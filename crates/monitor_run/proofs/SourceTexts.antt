@@ -1,14 +1,16 @@
 -- What the fetched files of a rewriting say.
-use Rattle.std.proofs.Common.{◌≡◌, ℕ, List, Ok, Err, ◌∙◌, subst, sym}
+use Rattle.std.proofs.Common.{◌≡◌, ◌≤◌, ℕ, ◌+◌, ◌-◌, ◌^◌, inl, inr, List, Ok, Err, ◌∙◌, subst, sym, arith}
+use Rattle.std.proofs.Math.Nat.{le_trans, le-min, min-le_left, min-le_right}
 use Rattle.std.specs.declared.option.Option.{Option}
 use Rattle.dl_syntax.specs.Ontology.{Declared}
 use Rattle.tcq_syntax.specs.Tcq.{Tcq}
-use Rattle.edge_io.specs.Held.{Store, IsFetched}
+use Rattle.edge_io.specs.Causes.{Rose}
+use Rattle.edge_io.specs.Held.{Store, IsFetched, Lacks}
 use Rattle.ontology_reader.specs.Texts.{text_says}
 use Rattle.tcq_reader.specs.Reading.{SaysQueries}
 use Rattle.monitor_run.specs.declared.ending.Ending.{Ending}
 use Rattle.monitor_run.specs.declared.ending.Ending.TheVariants.{Done, Usage, BadOntology, TooManyRewritings, BadQueries, ReadFault, WriteFault, Memory, StreamLimit}
-use Rattle.monitor_run.specs.Sources.{IsOntologyAtFault, AreQueriesAtFault, Sayings, Refuses}
+use Rattle.monitor_run.specs.Sources.{IsFetchRefused, IsOntologyAtFault, AreQueriesAtFault, Sayings, Refuses}
 use Rattle.monitor_run.proofs.Texts.{Fetched, fetched, same_ontology, queries_there, fault_there}
 
 pub ontology_fault : (held : Option Store) (before now : ℕ) (name queries bytes read : List ℕ) (ending : Ending) → IsFetched held name 4194304 bytes → read ≡ bytes → IsOntologyAtFault read ending → Refuses held before now name queries ending
@@ -23,6 +25,31 @@ ontology_fault held before now name queries bytes read (BadQueries line kind) is
 ontology_fault held before now name queries bytes read ReadFault is same fault = absurd fault
 ontology_fault held before now name queries bytes read WriteFault is same fault = fault
 ontology_fault held before now name queries bytes read StreamLimit is same fault = fault
+
+-- a count that rose later rose
+rose_later : (before mid now : ℕ) → before ≤ mid → Rose mid now → Rose before now
+rose_later before mid now later rose =
+    le_trans (le-min (le_trans (min-le_left (before + 1) (2 ^ 64 - 1)) (omega arith)) (min-le_right (before + 1) (2 ^ 64 - 1))) rose
+
+-- the ontology was read, and the queries' text was not fetched
+pub queries_unfetched : (held later : Option Store) (before mid now : ℕ) (name queries : List ℕ) (ontology : Declared) (bytes read : List ℕ) (ending : Ending) → IsFetched held name 4194304 bytes → read ≡ bytes → text_says read ≡ Ok ontology → later ≡ held → before ≤ mid → IsFetchRefused later mid now queries ending → Refuses held before now name queries ending
+queries_unfetched held later before mid now name queries ontology bytes read ReadFault is same says stays grew refused =
+    let file : Fetched held name bytes = fetched held name bytes is in
+    elim refused [
+      | inl rose ↦ inl (rose_later before mid now grew rose)
+      | inr lacks ↦ inr (inr (
+        record { text = file.text; has = file.has; ontology = ontology; says = same_ontology file.text bytes file.cut ∙ subst (λ (t : List ℕ). text_says t ≡ Ok ontology) same says },
+        subst (λ (h : Option Store). Lacks h queries) stays lacks,
+      ))
+    ]
+queries_unfetched held later before mid now name queries ontology bytes read Memory is same says stays grew refused = tt
+queries_unfetched held later before mid now name queries ontology bytes read Done is same says stays grew refused = refused
+queries_unfetched held later before mid now name queries ontology bytes read Usage is same says stays grew refused = refused
+queries_unfetched held later before mid now name queries ontology bytes read (BadOntology line kind) is same says stays grew refused = absurd refused
+queries_unfetched held later before mid now name queries ontology bytes read TooManyRewritings is same says stays grew refused = absurd refused
+queries_unfetched held later before mid now name queries ontology bytes read (BadQueries line kind) is same says stays grew refused = absurd refused
+queries_unfetched held later before mid now name queries ontology bytes read WriteFault is same says stays grew refused = refused
+queries_unfetched held later before mid now name queries ontology bytes read StreamLimit is same says stays grew refused = refused
 
 -- the ontology was read, and the queries' text was fetched
 pub record FetchedBoth (held : Option Store) (name queries : List ℕ) (ontology : Declared) (text : List ℕ) : Type 0 where

@@ -48,6 +48,13 @@ pub record HasOntologyFault (held : Option Store) (name : List ℕ) (line : ℕ)
   pub has : HasText held name text
   pub fault : text_says text ≡ Err (line, kind)
 
+-- the ontology's text has no fault
+pub record HasOntology (held : Option Store) (name : List ℕ) : Type 0 where
+  pub text : List ℕ
+  pub has : HasText held name text
+  pub ontology : Declared
+  pub says : text_says text ≡ Ok ontology
+
 -- the ontology's text has no fault, and the queries' text has this first one
 pub record HasQueriesFault (held : Option Store) (ontology_name queries_name : List ℕ) (line : ℕ) (kind : QueryKind) : Type 0 where
   pub ontology : Declared
@@ -69,7 +76,7 @@ abbrev pub Refuses : Option Store → ℕ → ℕ → List ℕ → List ℕ → 
 Refuses held before now ontology queries (BadOntology line kind) = HasOntologyFault held ontology line kind
 Refuses held before now ontology queries TooManyRewritings = HasTooMany held ontology queries
 Refuses held before now ontology queries (BadQueries line kind) = HasQueriesFault held ontology queries line kind
-Refuses held before now ontology queries ReadFault = Rose before now ⊎ Lacks held ontology ⊎ Lacks held queries
+Refuses held before now ontology queries ReadFault = Rose before now ⊎ Lacks held ontology ⊎ (HasOntology held ontology × Lacks held queries)
 Refuses held before now ontology queries Memory = Unit {0}
 Refuses held before now ontology queries _ = ⊥
 

@@ -1,10 +1,15 @@
-use Rattle.monitor_run.proofs.SourceTexts.{ontology_fault, fetched_both, both_say, queries_fault}
+use Rattle.monitor_run.proofs.SourceTexts.{ontology_fault, queries_unfetched, fetched_both, both_say, queries_fault}
 use Rattle.monitor_run.proofs.sources.read_sources.Goals as goal
 
 pub returns-in-Err-ontology_of-clause-refuses : goal.returns-in-Err-ontology_of-clause-refuses
 returns-in-Err-ontology_of-clause-refuses g c =
     ontology_fault (g.F.Files.held c.args.files.now) (g.F.Files.faults c.args.files.now) (g.F.Files.faults c.fetch.new.files) c.args.ontology.now c.args.queries.now c.in-Ok.text.items c.deref.result.now c.in-Err-ontology_of.ending
     c.in-Ok.ensures.bytes c.deref.ensures.value c.in-Err-ontology_of.ensures
+
+pub returns-in-Err-fetch-clause-refuses : goal.returns-in-Err-fetch-clause-refuses
+returns-in-Err-fetch-clause-refuses g c =
+    queries_unfetched (g.F.Files.held c.args.files.now) (g.F.Files.held c.fetch.new.files) (g.F.Files.faults c.args.files.now) (g.F.Files.faults c.fetch.new.files) (g.F.Files.faults c.fetch-2.new.files) c.args.ontology.now c.args.queries.now c.in-Ok-ontology_of.ontology c.in-Ok.text.items c.deref.result.now c.in-Err-fetch.ending
+    c.in-Ok.ensures.bytes c.deref.ensures.value c.in-Ok-ontology_of.ensures c.fetch.ensures.held c.fetch.ensures.later c.in-Err-fetch.ensures.refused
 
 pub returns-in-Ok-queries_of-clause-say : goal.returns-in-Ok-queries_of-clause-say
 returns-in-Ok-queries_of-clause-say g c =
