@@ -1,10 +1,9 @@
 -- A byte for each rank.
-use Rattle.std.proofs.Common.{◌≡◌, ℕ, ◌+◌, ◌<◌, ◌≤◌, List, [], ◌∷◌, ◌++◌, length, get_or, min, refl, sym, ◌∙◌, ap, subst, arith}
-use Rattle.std.specs.Prelude.{slice_index}
+use Rattle.std.proofs.Common.{◌≡◌, ℕ, ◌+◌, ◌<◌, List, [], ◌∷◌, ◌++◌, length, get_or, refl, sym, ◌∙◌, ap, subst, arith}
 use Rattle.answer_tables.specs.declared.run.Run.{Run}
 use Rattle.answer_tables.specs.declared.align.Joint.{Joint}
-use Rattle.answer_tables.specs.Runs.{unit_runs, end_from, link_at, Extended, AreAlike}
-use Rattle.answer_tables.specs.Joint.{joint_at, IsAligned}
+use Rattle.answer_tables.specs.Runs.{unit_runs, end_from, Extended, AreAlike}
+use Rattle.answer_tables.specs.Joint.{IsAligned}
 use Rattle.answer_tables.specs.Numbering.{Numbered}
 use Rattle.answer_tables.proofs.Runs.{run_at}
 use Rattle.answer_tables.proofs.UnitRuns.{length_units, unit_run, Extended-unit}

@@ -110,12 +110,7 @@ fn next_place(place: usize, run: Run, rank: u64) -> usize
 }
 
 /// Both lists of runs at once.
-fn align_runs(
-    alloc: Global,
-    a: &[Run],
-    b: &[Run],
-    numbering: Numbering,
-) -> Result<Aligned, Memory>
+fn align_runs(alloc: Global, a: &[Run], b: &[Run], numbering: Numbering) -> Result<Aligned, Memory>
     requires rise_a { RiseFrom 0 a.now }
     requires rise_b { RiseFrom 0 b.now }
     requires ends { end_from 0 a.now ≡ end_from 0 b.now }
@@ -148,12 +143,7 @@ fn align_runs(
 }
 
 /// Both lists of bytes at once, where a byte can tell each joint.
-fn align_bytes(
-    alloc: Global,
-    a: &[u8],
-    b: &[u8],
-    coding: Coding,
-) -> Result<Option<Aligned>, Memory>
+fn align_bytes(alloc: Global, a: &[u8], b: &[u8], coding: Coding) -> Result<Option<Aligned>, Memory>
     requires many { length a.now ≡ length b.now }
     requires fresh { coding.joints.items ≡ [] }
     requires coding { IsCoding coding.joints.items coding.codes.items coding.width }

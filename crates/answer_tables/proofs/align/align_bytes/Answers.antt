@@ -1,4 +1,4 @@
-use Rattle.std.proofs.Common.{◌≡◌, ℕ, List, Option, get_or, ◌∷◌, [], ◌++◌, length, ◌+◌, length-append, sym, ◌∙◌, ap, subst, arith, inl}
+use Rattle.std.proofs.Common.{ℕ, List, Option, get_or, ◌∷◌, [], length, ◌+◌, length-append, sym, ◌∙◌, ap, subst, arith, inl}
 use Rattle.answer_tables.specs.declared.run.Run.{Run}
 use Rattle.answer_tables.specs.declared.align.Joint.{Joint}
 use Rattle.answer_tables.specs.Runs.{unit_runs}

@@ -1,4 +1,4 @@
-use Rattle.std.proofs.Common.{◌≡◌, ℕ, List, Option, length, sym, ◌∙◌, ap, subst, Vec, Global}
+use Rattle.std.proofs.Common.{ℕ, List, Option, length, sym, ◌∙◌, ap, subst, Vec, Global}
 use Rattle.std.specs.Prelude.{IfSome}
 use Rattle.answer_tables.specs.Runs.{unit_runs, AreAlike}
 use Rattle.answer_tables.proofs.UnitRuns.{end_unit}

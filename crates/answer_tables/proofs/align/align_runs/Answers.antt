@@ -1,6 +1,4 @@
-use Rattle.std.proofs.Common.{◌≡◌, ◌+◌, ◌<◌, length, min, subst, arith}
-use Rattle.answer_tables.specs.declared.run.Run.{Run}
-use Rattle.answer_tables.proofs.Runs.{run_at}
+use Rattle.std.proofs.Common.{arith}
 use Rattle.answer_tables.proofs.Aligning.{Aligning-step}
 use Rattle.answer_tables.proofs.align.align_runs.Goals as goal
 

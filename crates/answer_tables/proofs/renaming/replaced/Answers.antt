@@ -1,8 +1,8 @@
-use Rattle.std.proofs.Common.{◌≡◌, ℕ, List, Option, length, sym, ap, subst, Vec, Global}
+use Rattle.std.proofs.Common.{ℕ, List, Option, sym, subst, Vec, Global}
 use Rattle.std.specs.Prelude.{IfSome}
 use Rattle.std.proofs.lemmas.Result.{IfOk-weaker}
 use Rattle.answer_tables.specs.declared.run.Run.{Run}
-use Rattle.answer_tables.specs.Runs.{unit_runs, AreAlike, NamedBelow}
+use Rattle.answer_tables.specs.Runs.{unit_runs}
 use Rattle.answer_tables.specs.Renaming.{AreRenamed}
 use Rattle.answer_tables.proofs.Renamings.{AreRenamed-alike, AreRenamed-of_alike}
 use Rattle.answer_tables.proofs.renaming.replaced.Goals as goal

@@ -1,5 +1,4 @@
-use Rattle.std.proofs.Common.{List, refl, subst}
-use Rattle.answer_tables.specs.declared.run.Run.{Run}
+use Rattle.std.proofs.Common.{refl, subst}
 use Rattle.answer_tables.specs.Runs.{RiseFrom}
 use Rattle.answer_tables.proofs.UnitRuns.{whole_rise}
 use Rattle.answer_tables.proofs.Renamings.{AreAlike-same}

@@ -1,4 +1,4 @@
-use Rattle.std.proofs.Common.{◌≡◌, ◌-◌, ◌<◌, ◌++◌, ◌∷◌, ℕ, List, length, replicate, take_all, vec_len, rules, sym, ◌∙◌, ap, subst, arith}
+use Rattle.std.proofs.Common.{◌≡◌, ◌-◌, ◌<◌, ◌++◌, ℕ, List, length, replicate, take_all, vec_len, rules, sym, ◌∙◌, ap, subst, arith}
 use Rattle.answer_tables.specs.declared.run.Run.{Run}
 use Rattle.answer_tables.specs.Runs.{RiseFrom, Extended, unit_runs}
 use Rattle.answer_tables.proofs.UnitRuns.{whole_rise, end_unit, rise_unit, Extended-units}
