@@ -1,6 +1,7 @@
 mod Runs
 mod UnitRuns
 mod Aligning
+mod Masks
 mod Bytes
 mod Codings
 mod Numbers
@@ -8,6 +9,7 @@ mod Views
 mod Renamings
 mod Combinations
 mod Constants
+mod Deciders
 mod Ranks
 mod Counting
 mod Substitutions

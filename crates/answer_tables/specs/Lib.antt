@@ -1,11 +1,13 @@
 pub mod Runs
 pub mod Joint
+pub mod Masking
 pub mod Numbering
 pub mod Tuples
 pub mod Table
 pub mod Renaming
 pub mod Coding
 pub mod Combining
+pub mod Deciding
 pub mod Counts
 pub mod Substituting
 pub mod Spreading

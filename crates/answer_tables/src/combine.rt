@@ -12,6 +12,7 @@ ghost use Rattle.answer_tables.specs.Combining.{test_of, Combines, AreCombined, 
 
 use crate::Memory;
 use crate::align::{Joint, align};
+use crate::sparse::combine_few;
 use crate::table::Table;
 use formula_store::{Link, Store};
 use std::alloc::Global;
@@ -41,7 +42,7 @@ fn combined_link(
 }
 
 /// The link of each joint.
-fn combined_links(
+pub(crate) fn combined_links(
     alloc: Global,
     operation: Operation,
     a: &[Link],
@@ -63,7 +64,7 @@ fn combined_links(
 }
 
 /// The combination of each of the links with one.
-fn combined_each(
+pub(crate) fn combined_each(
     alloc: Global,
     operation: Operation,
     links: &[Link],
@@ -140,7 +141,7 @@ fn combine_ranks(
     Table::from_aligned(alloc, a.slots, a.arity, links.as_slice(), aligned.ranks)
 }
 
-/// The table of the combined chains. Where one table has one chain, no rank is read.
+/// The table of the combined chains. Where one table has one chain, no rank is read, and where few tuples of one tell the result, only theirs are.
 pub(crate) fn combine(
     alloc: Global,
     operation: Operation,
@@ -161,6 +162,9 @@ pub(crate) fn combine(
     }
     if a.links.len() == 1 {
         return combine_with(alloc, operation, b, &a.links[0], store);
+    }
+    if let Some(table) = combine_few(alloc, operation, a, b, store)? {
+        return Ok(table);
     }
     combine_ranks(alloc, operation, a, b, store)
 }

@@ -1,10 +1,10 @@
 //! Numbers for all ranks below an end.
 
-ghost use Rattle.std.specs.Prelude.{◌≡◌, ◌≤◌, ◌<◌, ◌^◌, IfOk, IfSome, length, slice_index_or};
+ghost use Rattle.std.specs.Prelude.{◌≡◌, ◌≤◌, ◌<◌, ◌^◌, ℕ, IfOk, IfSome, length, slice_index_or};
 ghost use Rattle.answer_tables.specs.Runs.{AreAlike, RiseFrom, end_from, link_at, unit_runs};
 
 use crate::Memory;
-use crate::run::{Run, end_of, extend, link_of};
+use crate::run::{Run, end_of, extend, link_of, run_of};
 use std::alloc::Global;
 use std::marker::Model;
 
@@ -133,6 +133,23 @@ impl Ranking {
             return link_of(self.runs.as_slice(), rank);
         }
         self.bytes[(rank - self.start) as usize] as usize
+    }
+
+    /// The run that a rank is in.
+    pub fn run_over(&self, rank: u64) -> Run
+        requires { rank < end_from 0 self.now }
+        ensures link { result.link ≡ link_at self.now rank }
+        ensures ahead { rank < result.end }
+        ensures same { (n : ℕ) → rank ≤ n → n < result.end → link_at self.now n ≡ link_at self.now rank }
+    {
+        if rank < self.start {
+            return run_of(self.runs.as_slice(), rank);
+        }
+        let link = self.bytes[(rank - self.start) as usize] as usize;
+        Run {
+            end: rank + 1,
+            link,
+        }
     }
 
     /// Runs of the same numbers, as few as there can be.

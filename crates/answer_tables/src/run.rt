@@ -42,6 +42,7 @@ pub fn run_of(runs: &[Run], rank: u64) -> Run
     requires within { rank < end_from 0 runs.now }
     ensures link { result.link ≡ link_at runs.now rank }
     ensures ahead { rank < result.end }
+    ensures within { result.end ≤ end_from 0 runs.now }
     ensures same { (n : ℕ) → rank ≤ n → n < result.end → link_at runs.now n ≡ link_at runs.now rank }
 {
     let mut low = 0;

@@ -10,7 +10,7 @@ use dl_syntax::Tuples;
 use formula_store::Link;
 
 /// Whether the links have the same chains in the same order.
-fn are_same_links(a: &[Link], b: &[Link]) -> bool
+pub fn are_same_links(a: &[Link], b: &[Link]) -> bool
     ensures { result ≡ true → a.now ≡ b.now }
 {
     a == b

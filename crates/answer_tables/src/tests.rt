@@ -339,3 +339,51 @@ fn shares_what_rows_gave(rt: HostRuntime) {
     assert!(rt; is_true(&other, 1, 1, 2));
     assert!(rt; !is_true(&other, 1, 1, 3));
 }
+
+// The table over triples of eight individuals that is true where the last is 0.
+fn every_eighth(alloc: Global) -> Result<Table, Memory>
+    ensures slots { IfOk result (λ t. t.slots ≡ 8) }
+    ensures arity { IfOk result (λ t. t.arity ≡ 3) }
+{
+    let rows = zero_row(alloc)?;
+    let mut store = Store::new(alloc);
+    from_tuples(alloc, 8, 3, &[2], &rows, &mut store)
+}
+
+// The table over triples of eight individuals that is true at one of them.
+fn one_triple(alloc: Global, last: u32) -> Result<Table, Memory>
+    ensures slots { IfOk result (λ t. t.slots ≡ 8) }
+    ensures arity { IfOk result (λ t. t.arity ≡ 3) }
+{
+    let mut rows = Tuples::new(alloc, 3);
+    rows.push(&[IndId(1), IndId(2), IndId(last)])?;
+    let mut store = Store::new(alloc);
+    from_tuples(alloc, 8, 3, &[0, 1, 2], &rows, &mut store)
+}
+
+#[test]
+fn holds_where_few_do(rt: HostRuntime) {
+    let many = every_eighth(rt.alloc()).expect(&rt, "memory");
+    let held = one_triple(rt.alloc(), 0).expect(&rt, "memory");
+    let mut store = Store::new(rt.alloc());
+    let both = combine_and(rt.alloc(), &held, &many, &mut store).expect(&rt, "memory");
+    assert!(rt; both.is_same(&held));
+    let other = one_triple(rt.alloc(), 5).expect(&rt, "memory");
+    let both = combine_and(rt.alloc(), &many, &other, &mut store).expect(&rt, "memory");
+    assert!(rt; !is_true(&both, 1, 2, 0));
+    assert!(rt; !is_true(&both, 1, 2, 5));
+}
+
+#[test]
+fn shares_what_few_leave(rt: HostRuntime) {
+    let many = every_eighth(rt.alloc()).expect(&rt, "memory");
+    let held = one_triple(rt.alloc(), 0).expect(&rt, "memory");
+    let mut store = Store::new(rt.alloc());
+    let same = combine_or(rt.alloc(), &held, &many, &mut store).expect(&rt, "memory");
+    assert!(rt; share(&same, &many));
+    let other = one_triple(rt.alloc(), 5).expect(&rt, "memory");
+    let more = combine_or(rt.alloc(), &many, &other, &mut store).expect(&rt, "memory");
+    assert!(rt; is_true(&more, 1, 2, 5));
+    assert!(rt; is_true(&more, 1, 2, 0));
+    assert!(rt; !is_true(&more, 1, 2, 4));
+}

@@ -1,6 +1,7 @@
 use Rattle.std.proofs.Common.{◌≡◌, ◌+◌, ◌-◌, ◌/◌, ◌<◌, ◌≤◌, ℕ, length, arith, inl, inr, subst, sym, ◌∙◌}
 use Rattle.std.proofs.lemmas.Bool.{cases_lt}
 use Rattle.answer_tables.proofs.Runs.{run_at, ends_rise, link_at-found, end_from-below}
+use Rattle.answer_tables.proofs.UnitRuns.{end_last}
 use Rattle.answer_tables.proofs.run.run_of.Goals as goal
 
 pub loop-low-preserved-then-runs-middle : goal.loop-low-preserved-then-runs-middle
@@ -39,6 +40,7 @@ returns c =
     record {
       link = sym (link_at-found 0 runs c.args.rank c.loop-low.low inside c.loop-low.invariant.before ahead);
       ahead = ahead;
+      within = subst (λ (e : ℕ). (run_at runs c.loop-low.low).end ≤ e) (sym (end_last 0 runs (record { end = 0; link = 0 }) (omega (arith, inside)))) (ends_rise 0 runs c.loop-low.low (length runs - 1) c.requires.rise (omega (arith, inside)) (omega (arith, inside)));
       same = λ n from below.
           link_at-found 0 runs n c.loop-low.low inside (λ m early. let up = c.loop-low.invariant.before m early in omega (arith, up, from)) below
           ∙ sym (link_at-found 0 runs c.args.rank c.loop-low.low inside c.loop-low.invariant.before ahead);
