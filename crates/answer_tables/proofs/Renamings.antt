@@ -1,13 +1,13 @@
 -- Links numbered anew.
-use Rattle.std.proofs.Common.{◌≡◌, ℕ, ◌+◌, ◌^◌, ◌<◌, ◌≤◌, Bool, true, false, cond, List, [], ◌∷◌, ◌++◌, length, get_or, refl, sym, ◌∙◌, ap, subst, arith, inl, inr, length-append}
-use Rattle.std.specs.Prelude.{◌⊎◌, Some, slice_get, slice_index, slice_index_or}
+use Rattle.std.proofs.Common.{◌≡◌, ℕ, zero, suc, ◌+◌, ◌^◌, ◌<◌, ◌≤◌, Bool, true, false, cond, List, [], ◌∷◌, ◌++◌, length, get_or, refl, sym, ◌∙◌, ap, subst, arith, inl, inr, length-append}
+use Rattle.std.specs.Prelude.{◌⊎◌, ◌≢◌, Some, slice_get, slice_index, slice_index_or}
 use Rattle.std.specs.List.{list_any}
 use Rattle.std.proofs.lemmas.Bool.{cases_lt}
 use Rattle.std.proofs.lemmas.List.{get_or_append_left}
 use Rattle.std.proofs.Math.Seq.{get_or-append_seam}
 use Rattle.std.proofs.lemmas.Option.{slice_get-get_or, slice_get_within, get_or_from_slice_get}
 use Rattle.formula_store.specs.Interned.{interned, AreDistinct}
-use Rattle.formula_store.proofs.Chains.{is_chain, slice_get-interned}
+use Rattle.formula_store.proofs.Chains.{is_chain, Tested, tested, slice_get-interned}
 use Rattle.answer_tables.specs.declared.run.Run.{Run}
 use Rattle.answer_tables.specs.Runs.{link_at, end_from, RiseFrom, NamedBelow, Extended, AreAlike}
 use Rattle.answer_tables.specs.Renaming.{ArePlaces, AreRenamed}
@@ -115,6 +115,24 @@ one_place once p q x distinct at_p at_q = go (cases_lt p q) (cases_lt q p)
     go (inl less) h = absurd (distinct p q x less (slice_get_within once q x at_q) same)
     go (inr le) (inl less) = absurd (distinct q p x less (slice_get_within once p x at_p) (sym same))
     go (inr le) (inr ge) = omega (arith, le, ge)
+
+-- a chain that differs from each goes last
+pub interned-new : (chain : List ℕ) (chains : List (List ℕ)) → ((k : ℕ) → k < length chains → slice_index_or chains k [] ≢ chain) → interned chains chain ≡ chains ++ chain ∷ []
+interned-new chain chains differ = ap (λ (b : Bool). cond b chains (chains ++ chain ∷ [])) (none chains differ)
+  where
+    none : (chains : List (List ℕ)) → ((k : ℕ) → k < length chains → slice_index_or chains k [] ≢ chain) → list_any (is_chain chain) chains ≡ false
+    none [] differ = refl
+    none (x ∷ chains) differ = go (tested chain x) (none chains (λ k within. differ (suc k) (omega (arith, within))))
+      where
+        go : Tested chain x → list_any (is_chain chain) chains ≡ false → list_any (is_chain chain) (x ∷ chains) ≡ false
+        go (inl is) later = absurd (differ zero (omega arith) (sym is.1))
+        go (inr other) later = rw other.0 later
+
+-- what was pushed stands at the end
+pub slice_get-last : (new old : List (List ℕ)) (chain : List ℕ) (place : ℕ) → place ≡ length old → new ≡ old ++ chain ∷ [] → slice_get new place ≡ Some chain
+slice_get-last new old chain place last more =
+    slice_get-get_or new place [] (omega (arith, last, ap (λ (cs : List (List ℕ)). length cs) more, length-append old (chain ∷ [])))
+    ∙ ap Some (ap (λ (cs : List (List ℕ)). get_or cs place []) more ∙ ap (λ (k : ℕ). get_or (old ++ chain ∷ []) k []) last ∙ get_or-append_seam old chain [] [])
 
 pub ArePlaces-start : (links once : List (List ℕ)) (places : List ℕ) → links ≡ [] → once ≡ [] → places ≡ [] → ArePlaces links once places
 ArePlaces-start links once places no_links no_once no_places = record {

@@ -1,7 +1,7 @@
 -- Runs that tell the chains of many tables, and the chains substituted at their ranks.
-use Rattle.std.proofs.Common.{◌≡◌, ℕ, zero, suc, ◌+◌, ◌^◌, ◌<◌, ◌≤◌, List, [], ◌∷◌, ◌++◌, length, get_or, refl, sym, ◌∙◌, ap, subst, arith, inl, inr, length-append}
+use Rattle.std.proofs.Common.{◌≡◌, ℕ, zero, suc, ◌+◌, ◌^◌, ◌<◌, ◌≤◌, List, [], ◌∷◌, ◌++◌, length, get_or, true, false, nat_eq, refl, sym, ◌∙◌, ap, subst, arith, inl, inr, length-append}
 use Rattle.std.specs.Prelude.{◌⊎◌, All, slice_index_or}
-use Rattle.std.proofs.lemmas.Bool.{cases_lt}
+use Rattle.std.proofs.lemmas.Bool.{cases_lt, true≢false, eqb-true, eq-eqb}
 use Rattle.std.proofs.lemmas.List.{get_or_append_left}
 use Rattle.std.proofs.lemmas.List.Elements.{All-nil, All-weaker, All-push}
 use Rattle.std.proofs.Math.Seq.{get_or-append_seam}
@@ -51,27 +51,48 @@ TellAll-start table slots arity links rt runs joints view are aligned =
     })
 
 -- one more value
-pub TellAll-more : (slots arity : ℕ) (table v : Chains) (front : List Chains) (sv kv : ℕ) (lv : List (List ℕ)) (rv a runs : List Run) (old joints : List Joint) → TellAll slots arity table front a old → view_of sv kv lv rv ≡ v → (v.slots ≡ slots) × (v.arity ≡ arity) → IsAligned a rv runs joints → TellAll slots arity table (front ++ v ∷ []) runs joints
-TellAll-more slots arity table v front sv kv lv rv a runs old joints told view shape aligned = record {
-  rise = aligned.rise;
-  ends = aligned.ends ∙ told.ends;
-  named = aligned.named;
-  within = λ i short. let l = aligned.within i short in omega (arith, l, told.ends);
-  used = aligned.used;
-  table_told = first_tells slots arity a rv runs joints aligned told.ends table told.table_told;
-  values_told = All-push (Tells slots arity runs) front v
-      (All-weaker (Tells slots arity a) (Tells slots arity runs) (λ (w : Chains) tells. first_tells slots arity a rv runs joints aligned told.ends w tells) front told.values_told)
-      (second_tells slots arity a rv runs joints aligned told.ends v own);
-}
-  where
-    slots_is : sv ≡ slots
-    slots_is = ap (λ (w : Chains). w.slots) view ∙ shape.0
+module _ (slots arity : ℕ) (table v : Chains) (front : List Chains) (sv kv : ℕ) (lv : List (List ℕ)) (rv a runs : List Run) (joints : List Joint) (view : view_of sv kv lv rv ≡ v) (shape : (v.slots ≡ slots) × (v.arity ≡ arity)) (aligned : IsAligned a rv runs joints) where
+  slots_is : sv ≡ slots
+  slots_is = ap (λ (w : Chains). w.slots) view ∙ shape.0
 
-    arity_is : kv ≡ arity
-    arity_is = ap (λ (w : Chains). w.arity) view ∙ shape.1
+  arity_is : kv ≡ arity
+  arity_is = ap (λ (w : Chains). w.arity) view ∙ shape.1
 
-    own : Tells slots arity rv v
-    own = subst (λ (s : ℕ). Tells s arity rv v) slots_is (subst (λ (k : ℕ). Tells sv k rv v) arity_is (own_tells sv kv lv rv v view))
+  own : Tells slots arity rv v
+  own = subst (λ (s : ℕ). Tells s arity rv v) slots_is (subst (λ (k : ℕ). Tells sv k rv v) arity_is (own_tells sv kv lv rv v view))
+
+  with_value : end_from 0 a ≡ slots ^ arity → Tells slots arity a table → All (Tells slots arity a) front → TellAll slots arity table (front ++ v ∷ []) runs joints
+  with_value ends table_told values_told = record {
+    rise = aligned.rise;
+    ends = aligned.ends ∙ ends;
+    named = aligned.named;
+    within = λ i short. let l = aligned.within i short in omega (arith, l, ends);
+    used = aligned.used;
+    table_told = first_tells slots arity a rv runs joints aligned ends table table_told;
+    values_told = All-push (Tells slots arity runs) front v
+        (All-weaker (Tells slots arity a) (Tells slots arity runs) (λ (w : Chains) tells. first_tells slots arity a rv runs joints aligned ends w tells) front values_told)
+        (second_tells slots arity a rv runs joints aligned ends v own);
+  }
+
+  pub TellAll-more : (old : List Joint) → TellAll slots arity table front a old → TellAll slots arity table (front ++ v ∷ []) runs joints
+  TellAll-more old told = with_value told.ends told.table_told told.values_told
+
+pub no_values : (values : List Chains) → nat_eq (length values) 0 ≡ true → values ≡ []
+no_values [] none = refl
+no_values (v ∷ values) none = let no : suc (length values) ≡ 0 = eqb-true (suc (length values)) 0 none in absurd (omega (arith, no))
+
+pub some_values : (values : List Chains) → nat_eq (length values) 0 ≡ false → 0 < length values
+some_values [] some = absurd (true≢false (sym (eq-eqb 0 0 refl) ∙ some))
+some_values (v ∷ values) some = omega arith
+
+-- the table and its first value
+pub TellAll-first : (table v : Chains) (slots arity : ℕ) (links : List (List ℕ)) (rt : List Run) (sv kv : ℕ) (lv : List (List ℕ)) (rv runs : List Run) (joints : List Joint) → view_of slots arity links rt ≡ table → AreRuns slots arity links rt → view_of sv kv lv rv ≡ v → (v.slots ≡ table.slots) × (v.arity ≡ table.arity) → IsAligned rt rv runs joints → TellAll table.slots table.arity table (v ∷ []) runs joints
+TellAll-first table v slots arity links rt sv kv lv rv runs joints view are view_v shape aligned =
+    let slots_are : table.slots ≡ slots = ap (λ (w : Chains). w.slots) (sym view) in
+    let arity_are : table.arity ≡ arity = ap (λ (w : Chains). w.arity) (sym view) in
+    subst (λ (s : ℕ). TellAll s table.arity table (v ∷ []) runs joints) (sym slots_are)
+    (subst (λ (k : ℕ). TellAll slots k table (v ∷ []) runs joints) (sym arity_are)
+    (with_value slots arity table v [] sv kv lv rv rt runs joints view_v (shape.0 ∙ slots_are, shape.1 ∙ arity_are) aligned are.ends (own_tells slots arity links rt table view) (All-nil (Tells slots arity rt))))
 
 -- where all tables' chains are told, so are their lists
 same_chains : (slots arity : ℕ) (runs : List Run) (values : List Chains) (t u : List IndId) → All (Tells slots arity runs) values → IsTuple slots arity t → IsTuple slots arity u → link_at runs (number slots t) ≡ link_at runs (number slots u) → chains_at values t ≡ chains_at values u

@@ -1,7 +1,7 @@
 //! Links numbered anew, each chain once.
 
-ghost use Rattle.std.specs.Prelude.{◌≡◌, ◌<◌, ℕ, IfOk, IfSome, length, slice_index, true};
-ghost use Rattle.formula_store.specs.Interned.{AreDistinct};
+ghost use Rattle.std.specs.Prelude.{◌≡◌, ◌<◌, ℕ, IfOk, IfSome, Some, length, slice_get, slice_index, true};
+ghost use Rattle.formula_store.specs.Interned.{AreDistinct, interned};
 ghost use Rattle.answer_tables.specs.Runs.{RiseFrom, NamedBelow, unit_runs};
 ghost use Rattle.answer_tables.specs.Renaming.{ArePlaces, AreRenamed};
 
@@ -12,6 +12,9 @@ use formula_store::Link;
 use indexmap::IndexSet;
 use std::alloc::Global;
 use std::rc::Rc;
+
+/// How many links are compared with each other sooner than hashed.
+const FEW: usize = 8;
 
 /// Links of distinct chains, and the place among them of each link that was given.
 #[derive(Drop)]
@@ -31,8 +34,42 @@ pub fn copies(alloc: Global, links: &[Link]) -> Result<Vec<Link>, Memory>
     Ok(copies)
 }
 
-/// Each chain once, in order of first occurrence.
-pub fn each_once(alloc: Global, links: &[Link]) -> Result<Once, Memory>
+/// The place of a link's chain among distinct ones, where it goes last if it is new.
+fn place_of(once: &mut Vec<Link>, link: &Link) -> Result<usize, Memory>
+    requires { AreDistinct once.old.items }
+    ensures distinct { IfOk result (λ place. AreDistinct once.new.items) }
+    ensures grown { IfOk result (λ place. once.new.items ≡ interned once.old.items link.now) }
+    ensures place { IfOk result (λ place. slice_get once.new.items place ≡ Some link.now) }
+{
+    let count = once.len();
+    for place in 0..count {
+        if *link == once[place] {
+            return Ok(place);
+        }
+    }
+    once.push(link.copy()?)?;
+    Ok(count)
+}
+
+/// Each chain once, in order of first occurrence, where each link is compared with those before it.
+fn each_compared(alloc: Global, links: &[Link]) -> Result<Once, Memory>
+    ensures distinct { IfOk result (λ o. AreDistinct o.links.items) }
+    ensures places { IfOk result (λ o. ArePlaces links.now o.links.items o.places.items) }
+{
+    let mut once = Vec::with_capacity(alloc, links.len())?;
+    let mut places = Vec::with_capacity(alloc, links.len())?;
+    for link in links {
+        let place = place_of(&mut once, link)?;
+        places.push(place)?;
+    }
+    Ok(Once {
+        links: once,
+        places,
+    })
+}
+
+/// Each chain once, in order of first occurrence, found by their hashes.
+fn each_hashed(alloc: Global, links: &[Link]) -> Result<Once, Memory>
     ensures distinct { IfOk result (λ o. AreDistinct o.links.items) }
     ensures places { IfOk result (λ o. ArePlaces links.now o.links.items o.places.items) }
 {
@@ -44,6 +81,18 @@ pub fn each_once(alloc: Global, links: &[Link]) -> Result<Once, Memory>
     }
     let links = copies(alloc, chains.as_slice())?;
     Ok(Once { links, places })
+}
+
+/// Each chain once, in order of first occurrence.
+pub fn each_once(alloc: Global, links: &[Link]) -> Result<Once, Memory>
+    ensures distinct { IfOk result (λ o. AreDistinct o.links.items) }
+    ensures places { IfOk result (λ o. ArePlaces links.now o.links.items o.places.items) }
+{
+    if links.len() <= FEW {
+        each_compared(alloc, links)
+    } else {
+        each_hashed(alloc, links)
+    }
 }
 
 /// Whether each number is its own place.
@@ -105,7 +154,7 @@ fn replaced(alloc: Global, ranks: &Ranking, places: &[usize]) -> Result<Ranking,
 }
 
 /// The same ranks, shared.
-fn share(ranks: &Rc<Ranking>) -> Result<Rc<Ranking>, Memory>
+pub fn share(ranks: &Rc<Ranking>) -> Result<Rc<Ranking>, Memory>
     ensures { IfOk result (λ same. same.value ≡ ranks.now.value) }
 {
     let same = ranks.clone()?;

@@ -14,6 +14,7 @@ ghost use Rattle.answer_tables.specs.Substituting.{HaveShape, HasNoNode, Substit
 
 use crate::Memory;
 use crate::align::{Aligned, Joint, align};
+use crate::renaming::share;
 use crate::table::Table;
 use formula_store::{Link, Store};
 use std::alloc::Global;
@@ -23,23 +24,18 @@ fn align_all(alloc: Global, table: &Table, values: &[Table]) -> Result<Aligned, 
     requires { HaveShape table.now.slots table.now.arity values.now }
     ensures { IfOk result (λ a. TellAll table.now.slots table.now.arity table.now values.now a.ranks a.joints.items) }
 {
+    let own = table.ranks.as_ref();
     let many = table.links.len();
-    let mut aligned = align(
-        alloc,
-        table.ranks.as_ref(),
-        table.ranks.as_ref(),
-        many,
-        many,
-    )?;
-    for value in values {
+    if values.is_empty() {
+        return align(alloc, own, own, many, many);
+    }
+    let first = &values[0];
+    let mut aligned = align(alloc, own, first.ranks.as_ref(), many, first.links.len())?;
+    for place in 1..values.len() {
+        let value = &values[place];
+        let ranks = value.ranks.as_ref();
         let many = aligned.joints.len();
-        aligned = align(
-            alloc,
-            &aligned.ranks,
-            value.ranks.as_ref(),
-            many,
-            value.links.len(),
-        )?;
+        aligned = align(alloc, &aligned.ranks, ranks, many, value.links.len())?;
     }
     Ok(aligned)
 }
@@ -123,10 +119,9 @@ fn stored_links(alloc: Global, links: &[Link], store: &mut Store) -> Result<Vec<
     ensures stored { IfOk result (λ all. All (Contains store.new) all.items) }
     ensures grown { Extends store.old store.new }
 {
-    let mut all = Vec::new(alloc);
+    let mut all = Vec::with_capacity(alloc, links.len())?;
     for link in links {
-        let chain = link.chain().copy()?;
-        let stored = store.intern(chain)?;
+        let stored = store.adopt(link.copy()?)?;
         all.push(stored)?;
     }
     Ok(all)
@@ -139,13 +134,13 @@ pub(crate) fn stored_table(alloc: Global, table: &Table, store: &mut Store) -> R
     ensures grown { Extends store.old store.new }
 {
     let links = stored_links(alloc, table.links.as_slice(), store)?;
-    Table::from_ranking(
-        alloc,
-        table.slots,
-        table.arity,
-        links.as_slice(),
-        &table.ranks,
-    )
+    let ranks = share(&table.ranks)?;
+    Ok(Table {
+        slots: table.slots,
+        arity: table.arity,
+        links,
+        ranks,
+    })
 }
 
 /// Each tuple's substituted chain, where all tables are read rank by rank.

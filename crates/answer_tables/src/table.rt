@@ -66,8 +66,17 @@ pub fn fill(alloc: Global, slots: u32, arity: u8, link: &Link) -> Result<Table, 
     if end == 0 {
         return Table::from_parts(alloc, slots, arity, &[], &[]);
     }
-    let links = [link.copy()?];
-    Table::from_parts(alloc, slots, arity, &links, &[Run { end, link: 0 }])
+    let mut links = Vec::with_capacity(alloc, 1)?;
+    links.push(link.copy()?)?;
+    let mut runs = Vec::with_capacity(alloc, 1)?;
+    runs.push(Run { end, link: 0 })?;
+    let ranks = Rc::new(alloc, Ranking::from_runs(alloc, runs))?;
+    Ok(Table {
+        slots,
+        arity,
+        links,
+        ranks,
+    })
 }
 
 impl Table {

@@ -57,8 +57,8 @@ impl Store {
         self.links.as_slice()
     }
 
-    /// The stored link of the link's chain, which is put last where it is new.
-    fn adopt(&mut self, link: Link) -> Result<Link, Memory>
+    /// The stored link of a link's chain, which is put last where it is new.
+    pub fn adopt(&mut self, link: Link) -> Result<Link, Memory>
         ensures link { IfOk result (λ l. l ≡ link) }
         ensures ok { OnOk result (self.new ≡ interned self.old link) }
         ensures err { OnErr result (self.new ≡ self.old) }

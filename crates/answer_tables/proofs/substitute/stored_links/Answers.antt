@@ -13,11 +13,11 @@ loop-link-preserved c =
     let k = c.loop-link.link-index in
     let within = c.loop-link-test.true in
     let own : List ℕ = c.link-item.result in
-    let chain : List ℕ = c.in_ok-chain.chain in
+    let chain : List ℕ = c.in_ok-copy.field-0 in
     let stored : List ℕ = c.in_ok-stored.stored in
     let before = c.loop-link.store in
-    let after = c.intern.new.self in
-    let chain_is : chain ≡ own = c.in_ok-chain.ensures.same ∙ c.chain.ensures in
+    let after = c.adopt.new.self in
+    let chain_is : chain ≡ own = c.in_ok-copy.ensures in
     let longer : take (k + 1) links ≡ take k links ++ stored ∷ [] =
     take_more links k own within ∙ ap (λ (y : List ℕ). take k links ++ y ∷ []) (sym c.link-item.is ∙ sym chain_is ∙ sym c.in_ok-stored.ensures.link) in
     let grown : Extends before after = Extends-interned before after chain c.in_ok-stored.ensures.ok in

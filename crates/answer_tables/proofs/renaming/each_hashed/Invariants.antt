@@ -1,6 +1,6 @@
 use Rattle.std.proofs.Common.{take}
 use Rattle.answer_tables.specs.Renaming.{ArePlaces}
-use Rattle.answer_tables.proofs.renaming.each_once.Given as goal
+use Rattle.answer_tables.proofs.renaming.each_hashed.Given as goal
 
 abbrev pub invariant-loop-link : goal.invariant-loop-link
 invariant-loop-link l = ArePlaces (take l.link-index l.links) l.chains.keys l.places.items

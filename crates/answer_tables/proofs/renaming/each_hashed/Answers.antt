@@ -6,7 +6,7 @@ use Rattle.formula_store.specs.Interned.{AreDistinct}
 use Rattle.formula_store.proofs.Lists.{AreDistinct-keys}
 use Rattle.answer_tables.specs.Renaming.{ArePlaces}
 use Rattle.answer_tables.proofs.Renamings.{ArePlaces-more}
-use Rattle.answer_tables.proofs.renaming.each_once.Goals as goal
+use Rattle.answer_tables.proofs.renaming.each_hashed.Goals as goal
 
 pub loop-link-preserved : goal.loop-link-preserved
 loop-link-preserved c =
