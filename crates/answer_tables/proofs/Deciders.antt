@@ -1,6 +1,7 @@
 -- Two tables, combined where the second one's chain isn't a usual one.
 use Rattle.std.proofs.Common.{◌≡◌, ℕ, zero, suc, ◌^◌, ◌<◌, Bool, true, false, List, [], ◌∷◌, length, nat_eq, refl, sym, ◌∙◌, ap, subst, arith, inl, inr}
-use Rattle.std.specs.Prelude.{◌⊎◌, ◌≢◌, ◌||◌, ◌&&◌, slice_index_or}
+use Rattle.std.specs.Prelude.{◌⊎◌, ◌≢◌, ◌||◌, ◌&&◌, slice_index, slice_index_or}
+use Rattle.std.proofs.lemmas.Option.{slice_get_within, get_or_from_slice_get}
 use Rattle.std.proofs.lemmas.List.{get_or_default}
 use Rattle.std.specs.Int.Bits.{and_zero_l}
 use Rattle.dl_syntax.specs.declared.names.IndId.{IndId}
@@ -8,14 +9,17 @@ use Rattle.antichains.specs.Sets.{holds}
 use Rattle.answer_tables.specs.declared.run.Run.{Run}
 use Rattle.answer_tables.specs.declared.align.Joint.{Joint}
 use Rattle.answer_tables.specs.declared.combine.Operation.TheVariants.{Or, And}
-use Rattle.answer_tables.specs.Runs.{link_at, end_from, NamedBelow}
+use Rattle.answer_tables.specs.Runs.{link_at, end_from, NamedBelow, unit_runs}
+use Rattle.answer_tables.specs.Joint.{joint_at}
 use Rattle.answer_tables.specs.Masking.{IsMaskedAligned}
 use Rattle.answer_tables.specs.Tuples.{IsTuple, number}
-use Rattle.answer_tables.specs.Table.{Chains, at, AreRuns, AreUsed, view_of}
+use Rattle.answer_tables.specs.Table.{Chains, at, AreRuns, AreUsed, IsTable, view_of}
 use Rattle.answer_tables.specs.Combining.{test_of, Combines, AreCombined, JointsWithin}
 use Rattle.answer_tables.specs.Deciding.{IsDeciding, IsNeutral, AreFirsts}
+use Rattle.answer_tables.specs.Patching.{IsChanged}
 use Rattle.answer_tables.specs.Made.{IsCombination}
 use Rattle.answer_tables.proofs.Runs.{run_number, link_at-named}
+use Rattle.answer_tables.proofs.UnitRuns.{length_units, end_unit, rise_unit, unit_run, unit_byte}
 use Rattle.answer_tables.proofs.Numbers.{tuple_below}
 use Rattle.answer_tables.proofs.Views.{at_view}
 use Rattle.answer_tables.proofs.Combinations.{joints_within, AreRuns-combined, AreUsed-combined, each_combined, are_moved, view_moved}
@@ -129,6 +133,75 @@ module _ (slots arity : ℕ) (la lb : List (List ℕ)) (ra rb : List Run) (usual
           (subst (Combines test (at (view_of slots arity la masked.masked) tuple) (at (view_of slots arity lb rb) tuple)) same (joined tuple is))
     ]
 
+    -- the second number at a tuple's rank
+    second_at : (tuple : List IndId) → IsTuple slots arity tuple → (joint_at joints (link_at runs (number slots tuple))).second ≡ link_at rb (number slots tuple)
+    second_at tuple is =
+        let under = tuple_below slots arity tuple is in
+        masked.aligned.second (number slots tuple) (omega (arith, under, are_masked.ends))
+
+    module _ (bytes new : List ℕ) (once : List (List ℕ)) (own : unit_runs 0 bytes ≡ ra) (changed : IsChanged la links bytes runs joints usual once new) where
+      length_is : length bytes ≡ slots ^ arity
+      length_is = sym (end_unit bytes) ∙ ap (end_from 0) own ∙ are_a.ends
+
+      told_below : (n : ℕ) → n < length bytes → slice_index new n < length once
+      told_below n within = elim (cases_same (joint_at joints (link_at runs n)).second usual) [
+        | inl plain ↦ slice_get_within once (slice_index new n) _ (changed.kept n within plain)
+        | inr other ↦ slice_get_within once (slice_index new n) _ (changed.changed n within other)
+      ]
+
+      pub is_table : IsTable slots arity once (unit_runs 0 new)
+      is_table = record {
+        are = record {
+          rise = rise_unit new;
+          ends = end_unit new ∙ changed.many ∙ length_is;
+          few = are_a.few;
+          named = named;
+        };
+        used = used;
+        distinct = changed.distinct;
+      }
+        where
+          named : NamedBelow (length once) (unit_runs 0 new)
+          named k d within =
+              let inside : k < length new = omega (arith, within, length_units 0 new) in
+              let less = told_below k (omega (arith, inside, changed.many)) in
+              subst (λ (r : Run). r.link < length once) (sym (unit_run new k inside) ∙ get_or_default (unit_runs 0 new) k (record { end = 0; link = 0 }) d within) less
+
+          used : AreUsed (slots ^ arity) (length once) (unit_runs 0 new)
+          used i within =
+              let met = changed.used i within in
+              let inside = met.1 in
+              (met.0, omega (arith, inside, changed.many, length_is), unit_byte new met.0 inside ∙ met.2)
+
+      each_changed : IsNeutral test la (slice_index_or lb usual []) → (tuple : List IndId) → IsTuple slots arity tuple → Combines test (at (view_of slots arity la ra) tuple) (at (view_of slots arity lb rb) tuple) (at (view_of slots arity once (unit_runs 0 new)) tuple)
+      each_changed neutral tuple is = elim (cases_same (link_at rb n) usual) [
+        | inl hidden ↦
+            let some = link_at-named 0 ra (length la) n are_a.named (omega arith) (omega (arith, under, are_a.ends)) in
+            let same : at (view_of slots arity once (unit_runs 0 new)) tuple ≡ at (view_of slots arity la ra) tuple =
+            here ∙ get_or_from_slice_get once (slice_index new n) _ [] (changed.kept n within (second_at tuple is ∙ hidden))
+            ∙ ap (λ (k : ℕ). slice_index_or la k []) (sym (unit_byte bytes n within) ∙ ap (λ (rs : List Run). link_at rs n) own) ∙ sym (at_view slots arity la ra tuple is) in
+            subst (Combines test (at (view_of slots arity la ra) tuple) (at (view_of slots arity lb rb) tuple)) (sym same)
+            (subst (λ (y : List ℕ). Combines test (at (view_of slots arity la ra) tuple) y (at (view_of slots arity la ra) tuple)) (sym (hidden_at tuple is hidden))
+            (subst (λ (x : List ℕ). Combines test x (slice_index_or lb usual []) x) (sym (at_view slots arity la ra tuple is)) (neutral.each (link_at ra n) some)))
+        | inr shown ↦
+            let same : at (view_of slots arity once (unit_runs 0 new)) tuple ≡ at (view_of slots arity links runs) tuple =
+            here ∙ get_or_from_slice_get once (slice_index new n) _ [] (changed.changed n within (λ plain. shown (sym (second_at tuple is) ∙ plain))) ∙ sym (at_view slots arity links runs tuple is) in
+            subst (λ (x : List ℕ). Combines test x (at (view_of slots arity lb rb) tuple) (at (view_of slots arity once (unit_runs 0 new)) tuple)) (shown_at tuple is shown)
+            (subst (Combines test (at (view_of slots arity la masked.masked) tuple) (at (view_of slots arity lb rb) tuple)) (sym same) (joined tuple is))
+      ]
+        where
+          n : ℕ
+          n = number slots tuple
+
+          under : number slots tuple < slots ^ arity
+          under = tuple_below slots arity tuple is
+
+          within : n < length bytes
+          within = omega (arith, under, length_is)
+
+          here : at (view_of slots arity once (unit_runs 0 new)) tuple ≡ slice_index_or once (slice_index new n) []
+          here = at_view slots arity once (unit_runs 0 new) tuple is ∙ ap (λ (k : ℕ). slice_index_or once k []) (unit_byte new n (omega (arith, within, changed.many)))
+
 -- tables of one shape, as contracts see them
 module _ (a b : Chains) (slots arity slots_b arity_b : ℕ) (la lb : List (List ℕ)) (ra rb : List Run) (view_a : view_of slots arity la ra ≡ a) (view_b : view_of slots_b arity_b lb rb ≡ b) (same_slots : a.slots ≡ b.slots) (same_arity : a.arity ≡ b.arity)
     (usual : ℕ) (runs : List Run) (joints : List Joint) (are_a : AreRuns slots arity la ra) (are_b : AreRuns slots_b arity_b lb rb) (masked : IsMaskedAligned ra rb usual runs joints) where
@@ -170,3 +243,18 @@ module _ (a b : Chains) (slots arity slots_b arity_b : ℕ) (la lb : List (List 
           (subst (λ (v : Chains). Combines test (at (view_of slots arity la ra) tuple) (at v tuple) (at (view_of slots arity la ra) tuple)) moved_view
           (each_unchanged slots arity la lb ra rb usual runs joints are_a moved_b masked test links combined firsts neutral tuple here));
     }
+
+    module _ (bytes new : List ℕ) (once : List (List ℕ)) (own : unit_runs 0 bytes ≡ ra) (changed : IsChanged la links bytes runs joints usual once new) where
+      pub table_is : IsTable slots arity once (unit_runs 0 new)
+      table_is = is_table slots arity la lb ra rb usual runs joints are_a moved_b masked test links combined bytes new once own changed
+
+      pub table_changed : IsNeutral test la (slice_index_or lb usual []) → IsCombination test a b (view_of slots arity once (unit_runs 0 new))
+      table_changed neutral = record {
+        slots = ap (λ (v : Chains). v.slots) view_a;
+        arity = ap (λ (v : Chains). v.arity) view_a;
+        each = λ tuple tup.
+            let here : IsTuple slots arity tuple = subst (λ (v : Chains). IsTuple v.slots v.arity tuple) (sym view_a) tup in
+            subst (λ (v : Chains). Combines test (at v tuple) (at b tuple) (at (view_of slots arity once (unit_runs 0 new)) tuple)) view_a
+            (subst (λ (v : Chains). Combines test (at (view_of slots arity la ra) tuple) (at v tuple) (at (view_of slots arity once (unit_runs 0 new)) tuple)) moved_view
+            (each_changed slots arity la lb ra rb usual runs joints are_a moved_b masked test links combined bytes new once own changed neutral tuple here));
+      }

@@ -10,6 +10,7 @@ mod Renamings
 mod Combinations
 mod Constants
 mod Deciders
+mod Patches
 mod Ranks
 mod Counting
 mod Substitutions

@@ -11,6 +11,7 @@ use Rattle.formula_store.proofs.Chains.{is_chain, Tested, tested, slice_get-inte
 use Rattle.answer_tables.specs.declared.run.Run.{Run}
 use Rattle.answer_tables.specs.Runs.{link_at, end_from, RiseFrom, NamedBelow, Extended, AreAlike}
 use Rattle.answer_tables.specs.Renaming.{ArePlaces, AreRenamed}
+use Rattle.answer_tables.specs.Patching.{ArePlacesAfter}
 use Rattle.answer_tables.specs.Table.{AreRuns, AreUsed, IsTable, view_of}
 use Rattle.answer_tables.proofs.Runs.{run_at, Rest, Rest-start, Rest-here, Rest-above, Rest-next, Rest-end, link_at-named}
 use Rattle.answer_tables.proofs.Views.{view_same}
@@ -140,6 +141,26 @@ ArePlaces-start links once places no_links no_once no_places = record {
   same = λ i d within. absurd (omega (arith, within, ap (λ (xs : List (List ℕ)). length xs) no_links));
   used = λ p within. absurd (omega (arith, within, ap (λ (xs : List (List ℕ)). length xs) no_once));
 }
+
+-- one more link among those of a list that begins as before
+pub ArePlacesAfter-more : (old links once once' : List (List ℕ)) (places places' : List ℕ) (x : List ℕ) (p : ℕ) → once' ≡ interned once x → slice_get once' p ≡ Some x → places' ≡ places ++ p ∷ [] → ArePlacesAfter old links once places → ArePlacesAfter old (links ++ x ∷ []) once' places'
+ArePlacesAfter-more old links once once' places places' x p grown at_p more are = record {
+  many = ap (λ (xs : List ℕ). length xs) more ∙ omega (arith, length-append places (p ∷ []), length-append links (x ∷ []), are.many);
+  kept = λ i chain there. ap (λ (cs : List (List ℕ)). slice_get cs i) grown ∙ slice_get-interned once x i chain (are.kept i chain there);
+  same = λ i d within. same i d (omega (arith, within, length-append links (x ∷ []))) (cases_lt i (length links));
+}
+  where
+    same : (i : ℕ) (d : List ℕ) → i < length links + 1 → (i < length links) ⊎ (length links ≤ i) → slice_get once' (slice_index places' i) ≡ Some (slice_index_or (links ++ x ∷ []) i d)
+    same i d within (inl early) =
+        ap (slice_get once') (ap (λ (xs : List ℕ). get_or xs i 0) more ∙ get_or_append_left places (p ∷ []) 0 i (omega (arith, early, are.many)))
+        ∙ ap (λ (cs : List (List ℕ)). slice_get cs (slice_index places i)) grown
+        ∙ slice_get-interned once x (slice_index places i) (slice_index_or links i d) (are.same i d early)
+        ∙ ap Some (sym (get_or_append_left links (x ∷ []) d i early))
+    same i d within (inr late) =
+        let last : i ≡ length links = omega (arith, within, late) in
+        ap (λ (k : ℕ). slice_get once' (slice_index places' k)) last
+        ∙ ap (slice_get once') (ap (λ (xs : List ℕ). get_or xs (length links) 0) more ∙ ap (λ (k : ℕ). get_or (places ++ p ∷ []) k 0) (sym are.many) ∙ get_or-append_seam places p [] 0)
+        ∙ at_p ∙ ap Some (sym (ap (λ (k : ℕ). get_or (links ++ x ∷ []) k d) last ∙ get_or-append_seam links x [] d))
 
 pub ArePlaces-more : (links once once' : List (List ℕ)) (places places' : List ℕ) (x : List ℕ) (p : ℕ) → AreDistinct once' → once' ≡ interned once x → slice_get once' p ≡ Some x → places' ≡ places ++ p ∷ [] → ArePlaces links once places → ArePlaces (links ++ x ∷ []) once' places'
 ArePlaces-more links once once' places places' x p distinct grown at_p more are = record {

@@ -140,3 +140,7 @@ rise_unit ns = rise_units 0 ns
 
 pub unit_run : (ns : List ℕ) (i : ℕ) → i < length ns → run_at (unit_runs 0 ns) i ≡ record { end = i + 1; link = get_or ns i 0 }
 unit_run ns i within = let e : 0 + i + 1 ≡ i + 1 = omega arith in unit_at 0 ns i within ∙ ap (λ (k : ℕ). record { end = k; link = get_or ns i 0 }) e
+
+-- the number at a rank is that byte
+pub unit_byte : (ns : List ℕ) (n : ℕ) → n < length ns → link_at (unit_runs 0 ns) n ≡ get_or ns n 0
+unit_byte ns n within = let e : n - 0 ≡ n = omega arith in unit_link 0 ns n (omega arith) (omega (arith, within)) ∙ ap (λ (k : ℕ). get_or ns k 0) e

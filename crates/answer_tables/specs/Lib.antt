@@ -8,6 +8,7 @@ pub mod Renaming
 pub mod Coding
 pub mod Combining
 pub mod Deciding
+pub mod Patching
 pub mod Counts
 pub mod Substituting
 pub mod Spreading

@@ -10,6 +10,7 @@ mod links;
 mod made;
 mod marks;
 mod mask;
+mod patch;
 mod ranking;
 mod remembered;
 mod renaming;

@@ -35,7 +35,7 @@ pub fn copies(alloc: Global, links: &[Link]) -> Result<Vec<Link>, Memory>
 }
 
 /// The place of a link's chain among distinct ones, where it goes last if it is new.
-fn place_of(once: &mut Vec<Link>, link: &Link) -> Result<usize, Memory>
+pub fn place_of(once: &mut Vec<Link>, link: &Link) -> Result<usize, Memory>
     requires { AreDistinct once.old.items }
     ensures distinct { IfOk result (λ place. AreDistinct once.new.items) }
     ensures grown { IfOk result (λ place. once.new.items ≡ interned once.old.items link.now) }

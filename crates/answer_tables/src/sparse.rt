@@ -11,10 +11,11 @@ use crate::Memory;
 use crate::align::Joint;
 use crate::combine::{Operation, combined_each, combined_links};
 use crate::mask::align_masked;
+use crate::patch::changed;
 use crate::ranking::Ranking;
 use crate::run::Run;
 use crate::same::are_same_links;
-use crate::substitute::stored_table;
+use crate::substitute::{stored_links, stored_table};
 use crate::table::Table;
 use formula_store::{Link, Store};
 use std::alloc::Global;
@@ -131,32 +132,46 @@ fn combine_decided(
     Ok(Some(table))
 }
 
-/// Whether the first table is its own combination with the second, as far as the chains tell that are met where the second one's isn't the usual one.
-fn is_unchanged(
+/// The combination, where the usual chain leaves each chain of the first table as it is: the first table itself where the others do so too, and else one that differs from it at their tuples alone.
+fn combine_neutral(
     alloc: Global,
     operation: Operation,
     a: &Table,
     b: &Table,
     usual: usize,
     store: &mut Store,
-) -> Result<bool, Memory>
+) -> Result<Option<Table>, Memory>
     requires slots { a.now.slots ≡ b.now.slots }
     requires arity { a.now.arity ≡ b.now.arity }
-    ensures unchanged { IfOk result (λ is. is ≡ true → IsCombination (test_of operation) a.now b.now a.now) }
+    ensures combined { IfOk result (λ found. IfSome found (IsCombination (test_of operation) a.now b.now)) }
+    ensures stored { IfOk result (λ found. IfSome found (λ t. LinksAreIn t store.new)) }
     ensures grown { Extends store.old store.new }
 {
     let (la, lb) = (a.links.as_slice(), b.links.as_slice());
     if usual >= lb.len() || !is_neutral(alloc, operation, la, &lb[usual], store)? {
-        return Ok(false);
+        return Ok(None);
     }
     let (ra, rb) = (a.ranks.as_ref(), b.ranks.as_ref());
     let aligned = align_masked(alloc, ra, rb, usual, la.len(), lb.len())?;
     let joints = aligned.joints.as_slice();
     let links = combined_links(alloc, operation, la, lb, joints, store)?;
-    Ok(are_firsts(la, joints, links.as_slice()))
+    if are_firsts(la, joints, links.as_slice()) {
+        let same = stored_table(alloc, a, store)?;
+        return Ok(Some(same));
+    }
+    let Some(bytes) = ra.as_bytes() else {
+        return Ok(None);
+    };
+    let Some(redone) = changed(alloc, la, bytes, &aligned, usual, links.as_slice())? else {
+        return Ok(None);
+    };
+    let links = stored_links(alloc, redone.links.as_slice(), store)?;
+    let ranks = Ranking::from_bytes(alloc, redone.bytes);
+    let table = Table::from_own(alloc, a.slots, a.arity, links, ranks)?;
+    Ok(Some(table))
 }
 
-/// The combination, where the second table has a usual chain and that chain decides it, or where it changes nothing in the first table, which is then shared.
+/// The combination, where the second table has a usual chain that decides it or changes nothing.
 fn combine_sparse(
     alloc: Global,
     operation: Operation,
@@ -176,11 +191,7 @@ fn combine_sparse(
     if let Some(table) = combine_decided(alloc, operation, a, b, usual, store)? {
         return Ok(Some(table));
     }
-    if !is_unchanged(alloc, operation, a, b, usual, store)? {
-        return Ok(None);
-    }
-    let same = stored_table(alloc, a, store)?;
-    Ok(Some(same))
+    combine_neutral(alloc, operation, a, b, usual, store)
 }
 
 /// The combination, where few tuples of one of the tables tell it.

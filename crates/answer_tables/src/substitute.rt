@@ -114,7 +114,11 @@ fn has_no_node(link: &Link) -> bool
 }
 
 /// Links of the same chains that are in the store.
-fn stored_links(alloc: Global, links: &[Link], store: &mut Store) -> Result<Vec<Link>, Memory>
+pub(crate) fn stored_links(
+    alloc: Global,
+    links: &[Link],
+    store: &mut Store,
+) -> Result<Vec<Link>, Memory>
     ensures same { IfOk result (λ all. all.items ≡ links.now) }
     ensures stored { IfOk result (λ all. All (Contains store.new) all.items) }
     ensures grown { Extends store.old store.new }

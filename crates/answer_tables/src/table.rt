@@ -3,7 +3,7 @@ ghost use Rattle.std.specs.List.{All, Contains};
 ghost use Rattle.formula_store.specs.Interned.{AreDistinct};
 ghost use Rattle.dl_syntax.specs.declared.names.IndId.{IndId};
 ghost use Rattle.answer_tables.specs.Tuples.{IsTuple, number};
-ghost use Rattle.answer_tables.specs.Table.{Chains, AreRuns, AreUsed, HasChain, at, view_of};
+ghost use Rattle.answer_tables.specs.Table.{Chains, AreRuns, AreUsed, HasChain, IsTable, at, view_of};
 
 use crate::Memory;
 use crate::ranking::Ranking;
@@ -80,6 +80,26 @@ pub fn fill(alloc: Global, slots: u32, arity: u8, link: &Link) -> Result<Table, 
 }
 
 impl Table {
+    /// The table of links of distinct chains, each of which some tuple has.
+    pub(crate) fn from_own(
+        alloc: Global,
+        slots: u32,
+        arity: u8,
+        links: Vec<Link>,
+        ranks: Ranking,
+    ) -> Result<Table, Memory>
+        requires { IsTable slots arity links.items ranks }
+        ensures { IfOk result (λ t. t ≡ view_of slots arity links.items ranks) }
+    {
+        let ranks = Rc::new(alloc, ranks)?;
+        Ok(Table {
+            slots,
+            arity,
+            links,
+            ranks,
+        })
+    }
+
     /// The table of runs over all tuples.
     pub(crate) fn from_parts(
         alloc: Global,
