@@ -1,16 +1,16 @@
 -- The leaves of nodes, one after another.
-use Rattle.std.proofs.Common.{◌≡◌, ℕ, zero, suc, ◌^◌, ◌*◌, arith, ◌+◌, ◌<◌, Bool, true, false, List, [], ◌∷◌, ◌++◌, take, refl, sym, ◌∙◌, ap, subst, length}
-use Rattle.std.specs.Prelude.{Option, Some, Result, Ok, Err, IfOk, slice_get, unwrap_or}
+use Rattle.std.proofs.Common.{◌≡◌, ℕ, zero, suc, ◌^◌, ◌*◌, arith, false, List, [], ◌∷◌, ◌++◌, refl, sym, ap, subst}
+use Rattle.std.specs.Prelude.{Option, Some, Result, Ok, Err, IfOk, unwrap_or}
 use Rattle.std.specs.Result.{result_ok}
 use Rattle.std.proofs.lemmas.Option.{none-some}
 use Rattle.std.specs.List.{AllZip}
 use Rattle.std.proofs.lemmas.Bool.{false≢true}
+use Rattle.std.proofs.lemmas.Slice.Zip.{all_zipped_more}
 use Rattle.dl_syntax.specs.declared.queries.Cq.{Cq}
 use Rattle.dl_syntax.specs.Rows.{Relation}
 use Rattle.tcq_syntax.specs.declared.nodes.Node.{Node}
 use Rattle.tcq_syntax.specs.declared.nodes.Node.TheVariants as node
-use Rattle.progression.specs.Tables.{leaves_of, IsOverLeaf, is_leaf}
-use Rattle.step_examples.specs.Over.{AreOver, GoesOn}
+use Rattle.progression.specs.Tables.{leaves_of, is_leaf}
 
 leaves_push : (nodes : List Node) (q : Cq) → leaves_of (nodes ++ node.Leaf q ∷ []) ≡ leaves_of nodes ++ q ∷ []
 leaves_push [] q = refl
@@ -35,17 +35,12 @@ pub ok_is : {X E : Type 0} (r : Result X E) (x : X) → Some x ≡ result_ok r �
 ok_is (Ok y) x is P h = let same : y ≡ x = sym (ap (λ (o : Option _). unwrap_or o x) is) in subst P same h
 ok_is (Err e) x is P h = absurd (none-some x (sym is))
 
-zip_push : (qs : List Cq) (relations : List Relation) (q : Cq) (r : Relation) → AllZip IsOverLeaf qs relations → IsOverLeaf q r → AllZip IsOverLeaf (qs ++ q ∷ []) (relations ++ r ∷ [])
-zip_push [] [] q r zip over = (over, tt)
-zip_push [] (x ∷ relations) q r zip over = absurd zip
-zip_push (p ∷ qs) [] q r zip over = absurd zip
-zip_push (p ∷ qs) (x ∷ relations) q r zip over = (zip.0, zip_push qs relations q r zip.1 over)
+-- what holds of the leaves and the relations place by place does so with one more leaf and its relation
+pub zip_leaf : (R : Cq → Relation → Type 0) (old : List Relation) (q : Cq) (r : Relation) → R q r → (nodes : List Node) → AllZip R (leaves_of nodes) old → AllZip R (leaves_of (nodes ++ node.Leaf q ∷ [])) (old ++ r ∷ [])
+zip_leaf R old q r holds nodes before = subst (λ (qs : List Cq). AllZip R qs (old ++ r ∷ [])) (sym (leaves_push nodes q)) (all_zipped_more R (leaves_of nodes) old q r before holds)
 
-pub GoesOn-leaf : (old : List Relation) (q : Cq) (r : Relation) → IsOverLeaf q r → GoesOn old (node.Leaf q) (old ++ r ∷ [])
-GoesOn-leaf old q r over nodes before = subst (λ (qs : List Cq). AllZip IsOverLeaf qs (old ++ r ∷ [])) (sym (leaves_push nodes q)) (zip_push (leaves_of nodes) old q r before over)
-
-pub GoesOn-other : (old : List Relation) (n : Node) → is_leaf n ≡ false → GoesOn old n old
-GoesOn-other old n other nodes before = subst (λ (qs : List Cq). AllZip IsOverLeaf qs old) (sym (none_push n other nodes)) before
+pub zip_other : (R : Cq → Relation → Type 0) (old : List Relation) (n : Node) → is_leaf n ≡ false → (nodes : List Node) → AllZip R (leaves_of nodes) old → AllZip R (leaves_of (nodes ++ n ∷ [])) old
+zip_other R old n other nodes before = subst (λ (qs : List Cq). AllZip R qs old) (sym (none_push n other nodes)) before
 
 pub one_pow : (k : ℕ) → 1 ^ k ≡ 1
 one_pow zero = refl

@@ -1,1 +1,4 @@
 mod LeafLists
+mod PlainLeaves
+mod PlainRows
+mod Agreeing

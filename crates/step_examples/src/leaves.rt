@@ -3,7 +3,9 @@
 ghost use Rattle.std.specs.Prelude.{◌≡◌, IfOk, IfSome, length};
 ghost use Rattle.dl_syntax.specs.declared.queries.Cq.{Cq};
 ghost use Rattle.progression.specs.Tables.{IsOverLeaf};
-ghost use Rattle.step_examples.specs.Over.{AreOver, GoesOn};
+ghost use Rattle.std.specs.List.{All};
+ghost use Rattle.step_examples.specs.Over.{AnswersOn, AreAnswers, AreOver, GoesOn};
+ghost use Rattle.step_examples.specs.Plain.{LeafAsksForMembers, rows_if};
 
 use crate::plain::{Fact, leaf_holds};
 use dl_syntax::{IndId, Memory, Tuples};
@@ -12,7 +14,8 @@ use tcq_syntax::Node;
 
 // The individual alone, or no row.
 fn column(alloc: Global, there: bool) -> Result<Tuples, Memory>
-    ensures { IfOk result (λ rows. (q : Cq) → length q.head ≡ 1 → IsOverLeaf q rows) }
+    ensures over { IfOk result (λ rows. (q : Cq) → length q.head ≡ 1 → IsOverLeaf q rows) }
+    ensures rows { IfOk result (λ rows. rows.rows ≡ rows_if there) }
 {
     let mut rows = Tuples::new(alloc, 1);
     if there {
@@ -23,7 +26,8 @@ fn column(alloc: Global, there: bool) -> Result<Tuples, Memory>
 
 // The relations and that of a further node, if it is a leaf of one answer variable.
 fn with_leaf(alloc: Global, leaves: Vec<Tuples>, node: &Node, fact: Fact) -> Option<Vec<Tuples>>
-    ensures { IfSome result (λ new. GoesOn leaves.items node.now new.items) }
+    ensures over { IfSome result (λ new. GoesOn leaves.items node.now new.items) }
+    ensures answers { IfSome result (λ new. LeafAsksForMembers node.now → AnswersOn fact leaves.items node.now new.items) }
 {
     let mut leaves = leaves;
     if let Node::Leaf(q) = node {
@@ -39,7 +43,8 @@ fn with_leaf(alloc: Global, leaves: Vec<Tuples>, node: &Node, fact: Fact) -> Opt
 
 /// The relation of each leaf at the position, if each has one answer variable.
 pub fn leaves_at(alloc: Global, nodes: &[Node], fact: Fact) -> Option<Vec<Tuples>>
-    ensures { IfSome result (λ leaves. AreOver nodes.now leaves.items) }
+    ensures over { IfSome result (λ leaves. AreOver nodes.now leaves.items) }
+    ensures answers { IfSome result (λ leaves. All LeafAsksForMembers nodes.now → AreAnswers fact nodes.now leaves.items) }
 {
     let mut leaves = Vec::new(alloc);
     for node in nodes {
