@@ -1,8 +1,8 @@
 -- The number of a tuple's part, by weighed digits.
 use Rattle.std.proofs.Common.{◌≡◌, ℕ, zero, suc, ◌+◌, ◌-◌, ◌*◌, ◌^◌, ◌<◌, ◌≤◌, List, [], ◌∷◌, ◌++◌, length, take, get_or, set, replicate, min, refl, sym, ◌∙◌, ap, subst, arith, length-append}
-use Rattle.std.specs.Prelude.{All, slice_index_or}
-use Rattle.std.specs.List.{AllPairs}
-use Rattle.std.proofs.lemmas.List.{map-append, get_or-set_other, length-set, length-replicate, get_or-replicate}
+use Rattle.std.specs.Prelude.{All, slice_index, slice_index_or}
+use Rattle.std.specs.List.{AllPairs, Contains}
+use Rattle.std.proofs.lemmas.List.{map-append, same_lists, get_or-map, get_or_default, length-map, get_or-set_other, length-set, length-replicate, get_or-replicate}
 use Rattle.std.proofs.Math.Nat.{pow-suc, pow-zero}
 use Rattle.dl_syntax.specs.declared.names.IndId.{IndId}
 use Rattle.answer_tables.specs.declared.run.Run.{Run}
@@ -142,6 +142,33 @@ MarksParts-spread slots arity places rows marked before after weights within are
 
     told : (tuple : List IndId) → IsTuple slots arity tuple → link_at after (number slots tuple) ≡ link_at marked (number slots (part_on places tuple))
     told tuple tup = ap (link_at after) (omega arith) ∙ so.each tuple (tup.0 ∙ sym weigh.long, tup.1) ∙ ap (link_at marked) (omega (arith, weigh.sum tuple tup))
+
+-- on all places in order the part is the tuple
+part_whole : (places : List ℕ) (tuple : List IndId) → length places ≡ length tuple → ((i : ℕ) → i < length places → slice_index places i ≡ i) → part_on places tuple ≡ tuple
+part_whole places tuple many own = same_lists (part_on places tuple) tuple (length-map places (λ (p : ℕ). digit_at tuple p) ∙ many) each
+  where
+    each : (k : ℕ) (d : IndId) → k < length (part_on places tuple) → slice_index_or (part_on places tuple) k d ≡ slice_index_or tuple k d
+    each k d within =
+        let inside : k < length places = omega (arith, within, length-map places (λ (p : ℕ). digit_at tuple p)) in
+        get_or-map (λ (p : ℕ). digit_at tuple p) places k 0 d inside ∙ ap (digit_at tuple) (own k inside) ∙ get_or_default tuple k (record { 0 = 0 }) d (omega (arith, inside, many))
+
+pub MarksParts-whole : (slots arity : ℕ) (places : List ℕ) (rows : List (List IndId)) (marked : List Run) → AreMarked slots (length places) rows marked (slots ^ length places) → length places ≡ arity → ((i : ℕ) → i < length places → slice_index places i ≡ i) → MarksParts slots arity places rows marked
+MarksParts-whole slots arity places rows marked are many own = record {
+  rise = are.rise;
+  ends = are.ends ∙ ap (λ (k : ℕ). slots ^ k) many;
+  named = are.named;
+  held = λ tuple tup there. are.held tuple (here tuple tup) (below tuple tup) (subst (Contains rows) (part tuple tup) there);
+  others = λ tuple tup absent. are.others tuple (here tuple tup) (below tuple tup) (λ there. absent (subst (Contains rows) (sym (part tuple tup)) there));
+}
+  where
+    here : (tuple : List IndId) → IsTuple slots arity tuple → IsTuple slots (length places) tuple
+    here tuple tup = (tup.0 ∙ sym many, tup.1)
+
+    below : (tuple : List IndId) → IsTuple slots arity tuple → number slots tuple < slots ^ length places
+    below tuple tup = tuple_below slots (length places) tuple (here tuple tup)
+
+    part : (tuple : List IndId) → IsTuple slots arity tuple → part_on places tuple ≡ tuple
+    part tuple tup = part_whole places tuple (many ∙ sym tup.0) own
 
 tail_rises : (p : ℕ) (ps : List ℕ) → AllPairs (λ p q. p < q) (p ∷ ps) → AllPairs (λ p q. p < q) ps
 tail_rises p ps rising i j d before within = rising (suc i) (suc j) d (omega (arith, before)) (omega (arith, within))

@@ -1,6 +1,6 @@
 //! Runs that mark the ranks of rows.
 
-ghost use Rattle.std.specs.Prelude.{◌≡◌, ◌<◌, ◌≤◌, ◌^◌, ◌↔◌, ◌+◌, IfOk, OnOk, IsTrue, length, take};
+ghost use Rattle.std.specs.Prelude.{◌≡◌, ◌<◌, ◌≤◌, ◌^◌, ◌↔◌, ◌+◌, ℕ, true, IfOk, OnOk, IsTrue, length, slice_index, take};
 ghost use Rattle.std.specs.List.{All, AllPairs};
 ghost use Rattle.dl_syntax.specs.Rows.{IsRising};
 ghost use Rattle.answer_tables.specs.Runs.{RiseFrom, end_from};
@@ -99,6 +99,22 @@ fn weights_of_part(
     Ok(weights)
 }
 
+/// Whether the places are all those of a tuple of so many individuals, in order.
+fn are_all(places: &[u8], arity: u8) -> bool
+    ensures many { result ≡ true → length places.now ≡ arity }
+    ensures own { result ≡ true → (i : ℕ) → i < length places.now → slice_index places.now i ≡ i }
+{
+    if places.len() != arity as usize {
+        return false;
+    }
+    for i in 0..places.len() {
+        if places[i] as usize != i {
+            return false;
+        }
+    }
+    true
+}
+
 /// Runs over the ranks of all tuples, with 1 at those whose part on the places is one of the rows and 0 at the others.
 pub fn mark_parts(
     alloc: Global,
@@ -117,6 +133,9 @@ pub fn mark_parts(
     ensures { IfOk result (λ runs. MarksParts slots arity places.now rows.now.rows runs.items) }
 {
     let marked = mark_rows(alloc, slots, rows)?;
+    if are_all(places, arity) {
+        return Ok(marked);
+    }
     let weights = weights_of_part(alloc, slots, arity, places, rows.arity())?;
     let mut runs = Vec::new(alloc);
     spread(

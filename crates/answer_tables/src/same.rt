@@ -88,7 +88,7 @@ pub fn are_same(a: &[Table], b: &[Table]) -> bool
 
 impl Table {
     /// Whether the tables are told in the same way, and so equal.
-    pub fn is_same(&self, other: &Table) -> bool
+    pub(crate) fn is_same(&self, other: &Table) -> bool
         ensures { result ≡ true → self.now ≡ other.now }
     {
         self.slots == other.slots

@@ -4,7 +4,7 @@ use Rattle.answer_tables.specs.declared.run.Run.{Run}
 use Rattle.answer_tables.specs.Runs.{end_from}
 use Rattle.answer_tables.specs.Spreading.{Spread, reach}
 use Rattle.answer_tables.specs.Marks.{AreMarked}
-use Rattle.answer_tables.proofs.Parts.{fewer_places, MarksParts-spread}
+use Rattle.answer_tables.proofs.Parts.{fewer_places, MarksParts-spread, MarksParts-whole}
 use Rattle.answer_tables.proofs.marks.mark_parts.Goals as goal
 
 pub mark_rows-requires-clause-few : goal.mark_rows-requires-clause-few
@@ -39,3 +39,10 @@ returns c =
     MarksParts-spread slots c.args.arity c.args.places.now rows marked c.new-runs.result.items new weights c.requires.within are c.in_ok-weights.ensures c.new-runs.ensures.items
     (subst (λ (ws : List ℕ). Spread marked ws slots (slots - 1) 0 0 c.new-runs.result.items new) c.as_slice-2.ensures.value
     (subst (λ (rs : List Run). Spread rs c.as_slice-2.result.now slots (slots - 1) 0 0 c.new-runs.result.items new) c.as_slice.ensures.value c.in_ok-spread.ensures))
+
+pub returns-then-are_all : goal.returns-then-are_all
+returns-then-are_all c =
+    let places = c.args.places.now in
+    let are : AreMarked c.args.slots (length places) c.args.rows.now.rows c.in_ok-marked.marked.items (c.args.slots ^ length places) =
+    subst (λ (k : ℕ). AreMarked c.args.slots k c.args.rows.now.rows c.in_ok-marked.marked.items (c.args.slots ^ k)) (sym c.requires.many) c.in_ok-marked.ensures in
+    MarksParts-whole c.args.slots c.args.arity places c.args.rows.now.rows c.in_ok-marked.marked.items are (c.are_all.ensures.many c.if-are_all.true) (c.are_all.ensures.own c.if-are_all.true)
