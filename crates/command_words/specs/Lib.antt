@@ -2,3 +2,4 @@ pub mod Numbers
 pub mod Commands
 pub mod Meanings
 pub mod Canonical
+pub mod Laws

@@ -4,6 +4,7 @@ use Rattle.tcq_grammar.specs.Symbols.{Symbol}
 use Rattle.tcq_grammar.specs.Grammar.{File, Empty, file_spelled, FileFits}
 use Rattle.tcq_grammar.specs.Machine.{State, Between, run}
 use Rattle.tcq_grammar.specs.Grammar.{IsFile, BeginsFile}
+use Rattle.tcq_grammar.specs.Laws.{Spells, LeadsBetween, SpellsItsFront}
 use Rattle.tcq_grammar.proofs.Sound.{run_none, run_adds}
 use Rattle.tcq_grammar.proofs.Valid.{run_valid}
 use Rattle.tcq_grammar.proofs.Complete.{run-append, file_read}
@@ -44,3 +45,13 @@ pub one_file : (f g : File) → FileFits f → FileFits g → file_spelled f ≡
 one_file f g h k e =
     let same : Some (Between f) ≡ Some (Between g) = sym (file_read f h) ∙ ap (run start) e ∙ file_read g k in
     cc
+
+-- a file that fits leads to the state behind it
+reads_file : (text : List Symbol) (file : File) → Spells text file → run start text ≡ Some (Between file)
+reads_file text file h = rw (← h.1) (file_read file h.0)
+
+pub leads_between : LeadsBetween
+leads_between text file = (accepted text file, reads_file text file)
+
+pub spells_its_front : SpellsItsFront
+spells_its_front text state e = run_adds text (Between Empty) state e

@@ -6,3 +6,4 @@ pub mod Viable
 pub mod Language
 pub mod Erasure
 pub mod Whole
+pub mod Stops

@@ -8,51 +8,10 @@ use Rattle.tcq_grammar.specs.declared.words.Keyword.TheVariants as k
 use Rattle.tcq_grammar.specs.Words.{word, keyword_of}
 use Rattle.tcq_grammar.specs.Symbols.{Symbol}
 use Rattle.tcq_grammar.specs.Symbols as s
-use Rattle.tcq_grammar.specs.Grammar.{Term, Atom, Tree, Truth, Falsity, Leaf, Apply, Group, Timed, And, Or, term_spelled, atom_spelled, atoms_spelled, spelled, variables_spelled, File, file_spelled, opening}
+use Rattle.tcq_grammar.specs.Grammar.{Term, Atom, Tree, Truth, Falsity, Leaf, Apply, Group, Timed, And, Or, atom_spelled, atoms_spelled, spelled, variables_spelled, File, file_spelled}
 use Rattle.tcq_grammar.specs.Machine.{Level, Stack, Bottom, Operand, Inside, nesting, Head, Brackets, WantAtom, AfterPredicate, WantFirst, AfterFirst, WantSecond, AfterSecond, AfterAtom, State, Between, AfterQuery, AfterName, InVariables, AfterVariables, Want, Have, InLeaf, complete, reopen, timed_of, conjunction_of, disjunction_of, begin_word, begin, timed_left, close, finish, go_on_word, go_on, between_word, between, after_query, after_name, in_variables, after_variables, want_atom, after_predicate, want_first, after_first, want_second, after_second, after_atom, brackets_step, stays_in_leaf, close_leaf, in_leaf, step, run}
+use Rattle.tcq_grammar.specs.Fronts.{waiting, waiting_timed, level_spelled, stack_spelled, head_spelled, brackets_spelled, query_mark, so_far}
 use Rattle.tcq_grammar.proofs.Keywords.{written}
-
-abbrev pub waiting : Option Tree → Symbol → List Symbol
-waiting None mark = []
-waiting (Some left) mark = spelled left ++ mark ∷ []
-
-abbrev pub waiting_timed : Option (TimedOp × Tree) → List Symbol
-waiting_timed None = []
-waiting_timed (Some left) = spelled left.1 ++ s.Name (word (k.Timed left.0)) ∷ []
-
-abbrev pub level_spelled : Level → List Symbol
-level_spelled level = waiting level.either s.Bar ++ (waiting level.both s.Amp ++ waiting_timed level.timed)
-
-abbrev pub stack_spelled : Stack → List Symbol
-stack_spelled (Bottom level) = level_spelled level
-stack_spelled (Operand op stack) = stack_spelled stack ++ s.Name (word (k.Unary op)) ∷ []
-stack_spelled (Inside stack level) = stack_spelled stack ++ s.Open ∷ level_spelled level
-
-abbrev pub head_spelled : Head → List Symbol
-head_spelled head = file_spelled head.front ++ opening head.name head.variables
-
-abbrev pub brackets_spelled : Brackets → List Symbol
-brackets_spelled (WantAtom front) = atoms_spelled front
-brackets_spelled (AfterPredicate front predicate) = atoms_spelled front ++ s.Name predicate ∷ []
-brackets_spelled (WantFirst front predicate) = atoms_spelled front ++ s.Name predicate ∷ s.Open ∷ []
-brackets_spelled (AfterFirst front predicate first) = atoms_spelled front ++ s.Name predicate ∷ s.Open ∷ term_spelled first ∷ []
-brackets_spelled (WantSecond front predicate first) = atoms_spelled front ++ s.Name predicate ∷ s.Open ∷ term_spelled first ∷ s.Comma ∷ []
-brackets_spelled (AfterSecond front predicate first second) = atoms_spelled front ++ s.Name predicate ∷ s.Open ∷ term_spelled first ∷ s.Comma ∷ term_spelled second ∷ []
-brackets_spelled (AfterAtom front last) = atoms_spelled front ++ atom_spelled last
-
-abbrev pub query_mark : Symbol
-query_mark = s.Name (word k.Query)
-
--- the symbols that led to the state
-abbrev pub so_far : State → List Symbol
-so_far (Between front) = file_spelled front
-so_far (AfterQuery front) = file_spelled front ++ query_mark ∷ []
-so_far (AfterName front name) = file_spelled front ++ query_mark ∷ s.Name name ∷ []
-so_far (InVariables head) = file_spelled head.front ++ query_mark ∷ s.Name head.name ∷ s.Open ∷ variables_spelled head.variables
-so_far (AfterVariables head) = file_spelled head.front ++ query_mark ∷ s.Name head.name ∷ s.Open ∷ (variables_spelled head.variables ++ s.Close ∷ [])
-so_far (Want head stack) = head_spelled head ++ stack_spelled stack
-so_far (Have head outer level tree) = head_spelled head ++ (stack_spelled (reopen outer level) ++ spelled tree)
-so_far (InLeaf head stack brackets) = head_spelled head ++ (stack_spelled stack ++ s.Square ∷ brackets_spelled brackets)
 
 -- an operator's operand is spelled after it
 complete_spelled : (head : Head) (stack : Stack) (tree : Tree) → so_far (complete head stack tree) ≡ head_spelled head ++ (stack_spelled stack ++ spelled tree)

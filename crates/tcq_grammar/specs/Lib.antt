@@ -5,3 +5,5 @@ pub mod Machine
 pub mod Control
 pub mod Texts
 pub mod Fault
+pub mod Fronts
+pub mod Laws
