@@ -9,3 +9,4 @@ pub mod LineWritten
 pub mod JsonFacts
 pub mod RefusedNames
 pub mod PlainLine
+pub mod SaidFacts

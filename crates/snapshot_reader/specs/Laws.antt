@@ -1,9 +1,15 @@
--- What holds of each refusal.
-use Rattle.std.specs.Prelude.{◌≡◌, ℕ, List}
+-- What holds of all that a line says and of each refusal.
+use Rattle.std.specs.Prelude.{◌≡◌, ℕ, ◌<◌, List, length}
+use Rattle.std.specs.List.{All}
+use Rattle.dl_syntax.specs.declared.facts.Element.{Element}
+use Rattle.dl_syntax.specs.declared.facts.Element.TheVariants.{Ind, Null}
+use Rattle.dl_syntax.specs.declared.facts.Fact.{Fact}
+use Rattle.dl_syntax.specs.declared.facts.Fact.TheVariants as fact
 use Rattle.dl_syntax.specs.Names.{IsName}
+use Rattle.dl_syntax.specs.Snapshots.{IsSnapshot}
 use Rattle.dl_syntax.specs.Ontology.{Declared}
 use Rattle.snapshot_reader.specs.declared.Form.{Form}
-use Rattle.snapshot_reader.specs.Said.{Cause, is_malformed, unknown, wrong_kind, undeclared, too_many_facts, refused, said}
+use Rattle.snapshot_reader.specs.Said.{Cause, is_malformed, unknown, wrong_kind, undeclared, too_many_facts, refused, says, said}
 
 -- a cause with a name has one that is spelled as a name
 abbrev pub CauseIsSpelled : Cause → Type 0
@@ -15,4 +21,26 @@ CauseIsSpelled too_many_facts = Unit {0}
 
 -- the cause that a line is refused for is spelled so, in each form
 abbrev pub RefusesNames : Type 0
-RefusesNames = (o : Declared) (form : Form) (line : List ℕ) (cause : Cause) → said o form line ≡ refused cause → CauseIsSpelled cause
+RefusesNames = (o : Declared) (form : Form) (line : List ℕ) (cause : Cause)
+    → said o form line ≡ refused cause → CauseIsSpelled cause
+
+-- an individual that the ontology declares
+abbrev pub IsDeclaredIndividual : Declared → Element → Type 0
+IsDeclaredIndividual o (Ind i) = i.0 < length o.individuals
+IsDeclaredIndividual o (Null n) = ⊥
+
+-- the fact's predicate and its individuals are declared
+abbrev pub IsDeclared : Declared → Fact → Type 0
+IsDeclared o (fact.Concept c x) = (c.0 < length o.concepts) × IsDeclaredIndividual o x
+IsDeclared o (fact.Role p x y) =
+    (p.0 < length o.roles) × IsDeclaredIndividual o x × IsDeclaredIndividual o y
+
+-- what a line says is over declared predicates and individuals, in each form
+abbrev pub SaidAreDeclared : Type 0
+SaidAreDeclared = (o : Declared) (form : Form) (line : List ℕ) (facts : List Fact)
+    → said o form line ≡ says facts → All (IsDeclared o) facts
+
+-- what a line says is a snapshot, without repeats and nulls, in each form
+abbrev pub SaidAreDistinct : Type 0
+SaidAreDistinct = (o : Declared) (form : Form) (line : List ℕ) (facts : List Fact)
+    → said o form line ≡ says facts → IsSnapshot facts

@@ -1,7 +1,17 @@
-//! A law of what a line says, the contract of a function with nothing to do.
-ghost use Rattle.snapshot_reader.specs.Laws.{RefusesNames};
+//! Laws of what a line says, each the contract of a function with nothing to do.
+ghost use Rattle.snapshot_reader.specs.Laws.{RefusesNames, SaidAreDeclared, SaidAreDistinct};
 
 /// A line that is refused for a name is refused for what is spelled as a name.
 pub fn refuses_names()
     ensures { RefusesNames }
+{}
+
+/// The facts that a line says are of declared concepts and roles over declared individuals.
+pub fn said_are_declared()
+    ensures { SaidAreDeclared }
+{}
+
+/// Of the facts that a line says none stands twice, and none holds a null.
+pub fn said_are_distinct()
+    ensures { SaidAreDistinct }
 {}

@@ -19,7 +19,8 @@ waiting_timed (Some left) = spelled left.1 ++ s.Name (word (k.Timed left.0)) ∷
 
 -- what waits inside one parenthesis, the loosest first
 abbrev pub level_spelled : Level → List Symbol
-level_spelled level = waiting level.either s.Bar ++ (waiting level.both s.Amp ++ waiting_timed level.timed)
+level_spelled level =
+    waiting level.either s.Bar ++ (waiting level.both s.Amp ++ waiting_timed level.timed)
 
 -- what is open around a formula that is still to come
 abbrev pub stack_spelled : Stack → List Symbol
@@ -36,9 +37,13 @@ abbrev pub brackets_spelled : Brackets → List Symbol
 brackets_spelled (WantAtom front) = atoms_spelled front
 brackets_spelled (AfterPredicate front predicate) = atoms_spelled front ++ s.Name predicate ∷ []
 brackets_spelled (WantFirst front predicate) = atoms_spelled front ++ s.Name predicate ∷ s.Open ∷ []
-brackets_spelled (AfterFirst front predicate first) = atoms_spelled front ++ s.Name predicate ∷ s.Open ∷ term_spelled first ∷ []
-brackets_spelled (WantSecond front predicate first) = atoms_spelled front ++ s.Name predicate ∷ s.Open ∷ term_spelled first ∷ s.Comma ∷ []
-brackets_spelled (AfterSecond front predicate first second) = atoms_spelled front ++ s.Name predicate ∷ s.Open ∷ term_spelled first ∷ s.Comma ∷ term_spelled second ∷ []
+brackets_spelled (AfterFirst front predicate first) =
+    atoms_spelled front ++ s.Name predicate ∷ s.Open ∷ term_spelled first ∷ []
+brackets_spelled (WantSecond front predicate first) =
+    atoms_spelled front ++ s.Name predicate ∷ s.Open ∷ term_spelled first ∷ s.Comma ∷ []
+brackets_spelled (AfterSecond front predicate first second) =
+    atoms_spelled front ++ s.Name predicate ∷ s.Open ∷ term_spelled first ∷ s.Comma
+    ∷ term_spelled second ∷ []
 brackets_spelled (AfterAtom front last) = atoms_spelled front ++ atom_spelled last
 
 abbrev pub query_mark : Symbol
@@ -49,8 +54,14 @@ abbrev pub so_far : State → List Symbol
 so_far (Between front) = file_spelled front
 so_far (AfterQuery front) = file_spelled front ++ query_mark ∷ []
 so_far (AfterName front name) = file_spelled front ++ query_mark ∷ s.Name name ∷ []
-so_far (InVariables head) = file_spelled head.front ++ query_mark ∷ s.Name head.name ∷ s.Open ∷ variables_spelled head.variables
-so_far (AfterVariables head) = file_spelled head.front ++ query_mark ∷ s.Name head.name ∷ s.Open ∷ (variables_spelled head.variables ++ s.Close ∷ [])
+so_far (InVariables head) =
+    file_spelled head.front ++ query_mark ∷ s.Name head.name ∷ s.Open
+    ∷ variables_spelled head.variables
+so_far (AfterVariables head) =
+    file_spelled head.front ++ query_mark ∷ s.Name head.name ∷ s.Open
+    ∷ (variables_spelled head.variables ++ s.Close ∷ [])
 so_far (Want head stack) = head_spelled head ++ stack_spelled stack
-so_far (Have head outer level tree) = head_spelled head ++ (stack_spelled (reopen outer level) ++ spelled tree)
-so_far (InLeaf head stack brackets) = head_spelled head ++ (stack_spelled stack ++ s.Square ∷ brackets_spelled brackets)
+so_far (Have head outer level tree) =
+    head_spelled head ++ (stack_spelled (reopen outer level) ++ spelled tree)
+so_far (InLeaf head stack brackets) =
+    head_spelled head ++ (stack_spelled stack ++ s.Square ∷ brackets_spelled brackets)

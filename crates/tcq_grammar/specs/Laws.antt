@@ -23,7 +23,8 @@ SpellsItsFront = (text : List Symbol) (state : State)
 
 -- a text stops at one place at most
 abbrev pub StopsOnce : Type 0
-StopsOnce = (text : List Mark) (place other : ℕ) → StopsAt text place → StopsAt text other → place ≡ other
+StopsOnce = (text : List Mark) (place other : ℕ)
+    → StopsAt text place → StopsAt text other → place ≡ other
 
 -- a text that begins a file stops nowhere
 abbrev pub FrontsGoOn : Type 0

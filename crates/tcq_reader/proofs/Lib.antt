@@ -10,3 +10,4 @@ pub mod KeepsLemmas
 pub mod ReadingLemmas
 pub mod WithinLemmas
 pub mod NamedLemmas
+pub mod OneReading

@@ -1,0 +1,5 @@
+use Rattle.tcq_reader.proofs.OneReading as reading
+use Rattle.tcq_reader.proofs.laws.one_saying.Goals as goal
+
+pub returns : goal.returns
+returns c = reading.one_saying
