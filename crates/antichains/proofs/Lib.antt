@@ -1,3 +1,4 @@
 pub mod Families
 pub mod Chains
 pub mod Minimal
+pub mod Few

@@ -1,6 +1,6 @@
 //! What holds of all chains.
 
-ghost use Rattle.antichains.specs.Laws.{Canonical, MinimalSets, MonotoneHolds};
+ghost use Rattle.antichains.specs.Laws.{Canonical, FewSets, MinimalSets, MonotoneHolds};
 
 /// Two chains that hold at the same sets are equal.
 pub fn canonical()
@@ -15,4 +15,9 @@ pub fn minimal_sets()
 /// What a chain holds at is monotone.
 pub fn monotone_holds()
     ensures { MonotoneHolds }
+{}
+
+/// A chain whose sets name only the first so many nodes has at most two to the power of as many sets.
+pub fn few_sets()
+    ensures { FewSets }
 {}
