@@ -1,13 +1,15 @@
 -- A list of chains, and the chain that is looked for in it.
 use Rattle.std.proofs.Common.{◌≡◌, ℕ, zero, suc, ◌+◌, Bool, true, false, cond, List, [], ◌∷◌, ◌++◌, length, get_or, refl, sym, ◌∙◌, ap, subst, arith, inl, inr, nat_eq}
-use Rattle.std.specs.Prelude.{◌≢◌, ◌⊎◌, Option, Some, None, MatchOption, slice_get}
+use Rattle.std.specs.Prelude.{◌≢◌, ◌⊎◌, All, Option, Some, None, MatchOption, slice_get}
 use Rattle.std.specs.Option.{is_some}
 use Rattle.std.specs.List.{Contains, list_any, position, find, sum_by}
 use Rattle.std.specs.Cmp.Lexicographic.{same_text, told_text, pointwise}
 use Rattle.std.proofs.lemmas.Bool.{true≢false}
 use Rattle.std.proofs.lemmas.List.Quantifiers.{position-Some}
+use Rattle.std.proofs.lemmas.List.Elements.{All-push}
 use Rattle.std.proofs.lemmas.List.Sums.{sum_by-append}
 use Rattle.std.proofs.lemmas.Option.{slice_get-get_or, get_or_from_slice_get, none-some}
+use Rattle.antichains.specs.Chain.{IsChain}
 use Rattle.formula_store.specs.Interned.{interned}
 
 abbrev pub is_chain : List ℕ → List ℕ → Bool
@@ -82,3 +84,10 @@ clauses-interned chains new chain clauses more absent is counted size =
     let summed : sum_by length (chains ++ chain ∷ []) ≡ sum_by length chains + sum_by length (chain ∷ []) = sum_by-append length chains (chain ∷ []) in
     let one : sum_by length (chain ∷ []) ≡ length chain = omega arith in
     omega (arith, ap (sum_by length) pushed, summed, one, counted, size)
+
+pub chains-interned : (chains new : List (List ℕ)) (chain : List ℕ) → new ≡ interned chains chain → All IsChain chains → IsChain chain → All IsChain new
+chains-interned chains new chain is each one = subst (All IsChain) (sym is) (go (list_any (is_chain chain) chains))
+  where
+    go : (b : Bool) → All IsChain (cond b chains (chains ++ chain ∷ []))
+    go true = each
+    go false = All-push IsChain chains chain each one

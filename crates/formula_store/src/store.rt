@@ -1,7 +1,7 @@
-ghost use Rattle.std.specs.Prelude.{◌≡◌, ◌&&◌, ◌||◌, ◌+◌, IfOk, IfSome, OnOk, OnErr, MatchOption, List, [], Some, slice_get, length, ℕ};
+ghost use Rattle.std.specs.Prelude.{◌≡◌, ◌&&◌, ◌||◌, ◌+◌, IfOk, IfSome, OnOk, OnErr, MatchOption, List, [], Some, slice_get, length, ℕ, All};
 ghost use Rattle.std.specs.List.{Contains, sum_by};
 ghost use Rattle.antichains.specs.Sets.{holds};
-ghost use Rattle.antichains.specs.Chain.{IsMinimal, values_at};
+ghost use Rattle.antichains.specs.Chain.{IsChain, IsMinimal, values_at};
 ghost use Rattle.formula_store.specs.Interned.{interned, interned_all, AreDistinct};
 
 use crate::Memory;
@@ -24,15 +24,14 @@ pub struct Store {
 }
 
 impl Model for Store {
-    ghost use Rattle.std.specs.Prelude.{◌≡◌, List, ℕ, ◌&&◌, ◌||◌, length};
-    ghost use Rattle.std.specs.List.{sum_by};
-    ghost use Rattle.formula_store.specs.Memo.{Remembers};
+    ghost use Rattle.std.specs.Prelude.{List, ℕ};
+    ghost use Rattle.formula_store.specs.Memo.{IsStore};
 
     ghost Value = { List (List ℕ) };
 
     ghost view = { λ s. s.links.keys };
 
-    ghost invariant = { λ s. Remembers (λ x y. x && y) s.links.keys s.both × Remembers (λ x y. x || y) s.links.keys s.either × (s.clauses ≡ sum_by length s.links.keys) };
+    ghost invariant = { λ s. IsStore s.links.keys s.both s.either s.clauses };
 }
 
 impl Store {
@@ -161,9 +160,10 @@ impl Store {
         self.intern(chain)
     }
 
-    /// The total length of the list's chains.
+    /// The total length of the list's members, which are chains.
     pub fn clauses(&self) -> u64
-        ensures { result ≡ sum_by length self.now }
+        ensures total { result ≡ sum_by length self.now }
+        ensures chains { All IsChain self.now }
     {
         self.clauses
     }

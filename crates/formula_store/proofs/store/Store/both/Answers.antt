@@ -18,7 +18,7 @@ returns-in-Some-get_index-clause-link c =
     let told : (slice_get keys c.in-Some.pair.first ≡ Some c.args.a.now) × (slice_get keys c.in-Some.pair.second ≡ Some c.args.b.now) =
     pair_told keys c.args.a.now c.args.b.now c.pair-pair.result c.in-Some.pair c.in-Some.is (rw c.self.view_is c.pair-pair.ensures) in
     IfOk-weaker c.copy.result _ _ (λ (l : List ℕ) is. subst (IsMinimal (λ v. test (holds c.args.a.now v) (holds c.args.b.now v))) (sym is)
-    (recalled test keys c.in-Some.pair c.in-Some-get.place.now (c.self.invariant.0 c.in-Some.pair c.in-Some-get.place.now (sym c.in-Some-get.ensures.value))
+    (recalled test keys c.in-Some.pair c.in-Some-get.place.now (c.self.invariant.both_are c.in-Some.pair c.in-Some-get.place.now (sym c.in-Some-get.ensures.value))
     c.args.a.now c.args.b.now c.in-Some-get_index.stored.now told.0 told.1 (sym c.in-Some-get_index.ensures.key))) c.copy.ensures
 
 pub returns-in-Some-get_index-clause-ok : goal.returns-in-Some-get_index-clause-ok
@@ -36,10 +36,10 @@ invariant_of-self c =
     ] in
     let told : (slice_get old c.in-Some-pair.pair.first ≡ Some c.args.a.now) × (slice_get old c.in-Some-pair.pair.second ≡ Some c.args.b.now) =
     pair_told old c.args.a.now c.args.b.now c.pair-pair.result c.in-Some-pair.pair found c.pair-pair.ensures in
-    let made : Remembers test keys c.insert.new.self = Remembers-tried test keys c.self-2.inside.both c.insert.new.self c.in-Some-pair.pair c.in-Some-place.place c.insert.result c.self-2.invariant.0 c.insert.ensures.updates c.insert.ensures.err
+    let made : Remembers test keys c.insert.new.self = Remembers-tried test keys c.self-2.inside.both c.insert.new.self c.in-Some-pair.pair c.in-Some-place.place c.insert.result c.self-2.invariant.both_are c.insert.ensures.updates c.insert.ensures.err
     (combined test old keys c.in-Some-pair.pair c.in-Some-place.place c.args.a.now c.args.b.now c.in_ok-link.link (c.self-2.view_is ∙ c.in_ok-link.ensures.ok ∙ ap (interned old) (sym c.in_ok-link.ensures.link)) told.0 told.1
     (rw c.self-2.view_is c.in-Some-place.ensures) (subst (IsMinimal (λ v. test (holds c.args.a.now v) (holds c.args.b.now v))) (sym c.in_ok-link.ensures.link) (goal_minimal c))) in
-    (made, c.self-2.invariant.1, c.self-2.invariant.2)
+    record { both_are = made; either_are = c.self-2.invariant.either_are; counted = c.self-2.invariant.counted; are_chains = c.self-2.invariant.are_chains }
   where
     goal_minimal : (k : goal.After-insert) → IsMinimal (λ v. test (holds k.args.a.now v) (holds k.args.b.now v)) k.in_ok-chain.chain
     goal_minimal k = rw (sym k.chain.ensures) (rw (sym k.chain-2.ensures) k.in_ok-chain.ensures)
