@@ -2,6 +2,7 @@
 use Rattle.std.proofs.Common.{◌≡◌, ℕ, ◌+◌, ◌<◌, List, [], ◌∷◌, ◌++◌, length, take, get_or, sym, ◌∙◌, ap, subst, arith}
 use Rattle.std.specs.Prelude.{Some, slice_get}
 use Rattle.std.specs.List.{All}
+use Rattle.std.proofs.lemmas.List.{length_push}
 use Rattle.std.proofs.lemmas.Option.{get_or_from_slice_get}
 use Rattle.monitor_core.proofs.Askable.{taken_more}
 use Rattle.std.proofs.lemmas.List.Elements.{All-nil, All-cons, All-head, All-tail}
@@ -81,7 +82,11 @@ module _ (o : Declared) (sight : Sight) (facts : List Fact) where
     answers_of : (query : Tcq) (rows : List (List IndId)) → AreSlotAnswers o.inclusions (length o.individuals) query (with_snapshot snapshot history) rows → AreAnswers o.inclusions (length o.individuals) query (with_snapshot snapshot history) rows
     answers_of query rows are =
         let there : AreSlotAnswers o.inclusions (individuals_of (length o.individuals) (with_snapshot snapshot history)) query (with_snapshot snapshot history) rows = subst (λ (n : ℕ). AreSlotAnswers o.inclusions n query (with_snapshot snapshot history) rows) same_individuals are in
-        record { rising = there.rising; member = there.member }
+        record {
+          has_snapshot = omega (arith, length_push history.snapshots snapshot);
+          rising = there.rising;
+          member = there.member;
+        }
 
     pub all_stand : (queries : List Tcq) (olds news : List Kept) (relations : List Relation) → AllAdvance o sight queries facts olds news relations → AllStand o history queries olds → AllStand o (with_snapshot snapshot history) queries news
     all_stand [] [] [] [] all stand = tt
