@@ -24,3 +24,4 @@ mod Two
 mod Listing
 mod LinkLists
 mod Rows
+pub mod Few

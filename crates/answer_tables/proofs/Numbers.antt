@@ -72,12 +72,12 @@ tuple_at slots (suc k) n below = go (cases_lt zero (slots ^ k)) (λ m less. tupl
         let power : slots ^ length tail.0 ≡ slots ^ k = ap (λ m. slots ^ m) tail.1.0 in
         (digit ∷ tail.0, (ap suc tail.1.0, digits_cons slots digit tail.0 first tail.1.1), ap (λ p. (n / slots ^ k) * p + number slots tail.0) power ∙ ap (λ m. (n / slots ^ k) * slots ^ k + m) tail.2 ∙ omega (arith, whole))
 
-Contains-map : {A B : Type 0} (f : A → B) (xs : List A) (x : A) → Contains xs x → Contains (map f xs) (f x)
+pub Contains-map : {A B : Type 0} (f : A → B) (xs : List A) (x : A) → Contains xs x → Contains (map f xs) (f x)
 Contains-map f [] x (k, within, is) = absurd (omega (arith, within))
 Contains-map f (y ∷ xs) x (zero, within, is) = (zero, omega arith, ap f is)
 Contains-map f (y ∷ xs) x (suc k, within, is) = let rest = Contains-map f xs x (k, omega (arith, within), is) in (suc rest.0, (let l = rest.1 in omega (arith, l)), rest.2)
 
-from_map : {A B : Type 0} (f : A → B) (xs : List A) (y : B) → Contains (map f xs) y → (x : A) × Contains xs x × (f x ≡ y)
+pub from_map : {A B : Type 0} (f : A → B) (xs : List A) (y : B) → Contains (map f xs) y → (x : A) × Contains xs x × (f x ≡ y)
 from_map f [] y (k, within, is) = absurd (omega (arith, within))
 from_map f (x ∷ xs) y (zero, within, is) = (x, (zero, omega arith, refl), is)
 from_map f (x ∷ xs) y (suc k, within, is) = let rest = from_map f xs y (k, omega (arith, within), is) in (rest.0, (suc rest.1.0, (let l = rest.1.1 in omega (arith, l)), rest.1.2), rest.2)

@@ -15,3 +15,4 @@ pub mod Spreading
 pub mod Marks
 pub mod Holding
 pub mod Made
+pub mod Laws

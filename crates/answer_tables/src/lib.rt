@@ -6,6 +6,7 @@ mod coding;
 mod combine;
 mod counts;
 mod holding;
+pub mod laws;
 mod links;
 mod made;
 mod marks;

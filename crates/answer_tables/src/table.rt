@@ -1,4 +1,4 @@
-ghost use Rattle.std.specs.Prelude.{◌≡◌, ◌≤◌, ◌<◌, ◌^◌, ◌↔◌, ℕ, List, IfOk, MatchOption, length};
+ghost use Rattle.std.specs.Prelude.{◌≡◌, ◌≤◌, ◌<◌, ◌^◌, ◌↔◌, ℕ, List, IfOk, length};
 ghost use Rattle.std.specs.List.{All, Contains};
 ghost use Rattle.formula_store.specs.Interned.{AreDistinct};
 ghost use Rattle.dl_syntax.specs.declared.names.IndId.{IndId};
@@ -198,17 +198,6 @@ impl Table {
         ensures { (tuple : List IndId) → IsTuple self.now.slots self.now.arity tuple → number self.now.slots tuple ≡ rank → result.now ≡ at self.now tuple }
     {
         &self.links[self.ranks.link_of(rank)]
-    }
-
-    /// The default, which is absent exactly where there is no tuple, and is the chain of some tuple.
-    pub fn usual(&self) -> Option<&Link>
-        ensures { MatchOption result (self.now.slots ^ self.now.arity ≡ 0) (λ l. HasChain self.now l.now) }
-    {
-        if self.ranks.len() == 0 {
-            None
-        } else {
-            Some(self.at_rank(0))
-        }
     }
 
     /// A link of each chain of a tuple, each once.

@@ -181,14 +181,12 @@ fn copies(rt: HostRuntime) {
     assert!(rt; copy.slots() == 3);
     assert!(rt; copy.arity() == 1);
     assert!(rt; has(&copy, 0, &[1]));
-    assert!(rt; copy.usual().is_some());
 }
 
 #[test]
-fn has_no_default_without_tuples(rt: HostRuntime) {
+fn has_no_chain_without_tuples(rt: HostRuntime) {
     let one = link(rt.alloc(), &[1]).expect(&rt, "memory");
     let table = fill(rt.alloc(), 0, 2, &one).expect(&rt, "memory");
-    assert!(rt; table.usual().is_none());
     assert!(rt; table.distinct_links().is_empty());
 }
 

@@ -1,0 +1,8 @@
+//! What holds of all tables.
+
+ghost use Rattle.answer_tables.specs.Laws.{FewChains};
+
+/// Distinct chains, each of which some tuple of a table has, are at most as many as the table's tuples.
+pub fn few_chains()
+    ensures { FewChains }
+{}
