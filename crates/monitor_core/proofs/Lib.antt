@@ -9,4 +9,5 @@ pub mod Askable
 pub mod Starting
 pub mod OneQuery
 pub mod Accepting
+pub mod Bounds
 pub mod Sizes

@@ -1,17 +1,19 @@
 -- The chains that are kept are the minimal sets of the kept nodes.
 use Rattle.std.proofs.Common.{◌≡◌, ℕ, zero, suc, ◌<◌, List, [], ◌∷◌, length, map, refl, sym, ap, subst, arith, inl, inr}
-use Rattle.std.specs.Prelude.{Some, slice_get, Bool, if◌then◌else◌}
+use Rattle.std.specs.Prelude.{All, Some, slice_get, Bool, if◌then◌else◌, ◌≤◌}
 use Rattle.std.specs.List.{AllZip, Contains, sum_by}
 use Rattle.std.proofs.lemmas.List.Elements.{All-contains}
 use Rattle.dl_syntax.specs.declared.names.IndId.{IndId}
 use Rattle.dl_syntax.specs.declared.ontology.Inclusion.{Inclusion}
-use Rattle.dl_syntax.proofs.AllByCons.{Contains-none, Contains-first, Contains-later, Contains-cons_cases}
-use Rattle.tcq_syntax.specs.Tcq.{Tcq}
+use Rattle.std.proofs.lemmas.List.Sums.{sum_by-cons}
+use Rattle.std.proofs.lemmas.Option.{slice_get_within, get_or_from_slice_get}
+use Rattle.dl_syntax.proofs.AllByCons.{Contains-none, Contains-first, Contains-later, Contains-cons_cases, Contains-single}
+use Rattle.tcq_syntax.specs.Tcq.{Tcq, IsTcq}
 use Rattle.tcq_syntax.specs.Formula.{formula_at}
 use Rattle.tcq_syntax.specs.Histories.{History, slots_of}
 use Rattle.tcq_syntax.specs.Answers.{IsRow}
 use Rattle.tcq_syntax.specs.End.{IsMinimal}
-use Rattle.tcq_syntax.specs.Sizes.{futures}
+use Rattle.tcq_syntax.specs.Sizes.{futures, units_of}
 use Rattle.tcq_syntax.specs.Kept.{IsKeptAt, AreKept}
 use Rattle.tcq_syntax.proofs.OneList.{one_minimal}
 use Rattle.answer_tables.specs.Tuples.{IsTuple}
@@ -21,9 +23,11 @@ use Rattle.progression.specs.Kept.{Fits, FitsNode, StandsFor}
 use Rattle.std.proofs.lemmas.Slice.Zip.{AllZip-long}
 use Rattle.tcq_syntax.specs.Kept.{IsKeptSize}
 use Rattle.monitor_core.specs.Keeping.{KeepsOf, IsStoreOf, IsClausesOf, Monitored, IsMonitored}
-use Rattle.monitor_core.specs.Standing.{IsClosed, Stands, setting_of}
+use Rattle.monitor_core.specs.Standing.{IsClosed, Stands, setting_of, units_in, IsFewAt}
 use Rattle.monitor_core.proofs.Placing.{all_zip_at}
+use Rattle.antichains.specs.Chain.{IsChain}
 use Rattle.monitor_core.proofs.OneQuery.{fit_at}
+use Rattle.monitor_core.proofs.Bounds.{store_few}
 
 -- the one that stands with an element of the second list, and with one of the first
 pub with_second : {A B : Type 0} (R : A → B → Type 0) (xs : List A) (ys : List B) (y : B) → AllZip R xs ys → Contains ys y → (x : A) × Contains xs x × R x y
@@ -135,7 +139,7 @@ held_size m history size is size_is stands =
 -- and so of one query
 pub query_size : (m : Monitored) (history : History) (place : ℕ) (query : Tcq) (k : Kept) (size : ℕ) → IsMonitored m → slice_get m.state.kept.items place ≡ Some k → IsClausesOf k size → Stands m history → slice_get (setting_of m).queries place ≡ Some query → IsKeptSize (setting_of m).ontology.inclusions (length (setting_of m).ontology.individuals) history (query ∷ []) size
 unfolding Stands setting_of
-query_size m history place query k size is there (store, stored, size_is) stands query_there =
+query_size m history place query k size is there (store, stored, chains, size_is) stands query_there =
     let o = m.plan.ontology in
     let fits : Fits query (length o.individuals) k = fit_at o m.plan.queries.items m.state.kept.items place query k is.fits query_there there in
     let stand : StandsFor o.inclusions (length o.individuals) history query k = all_zip_at (StandsFor o.inclusions (length o.individuals) history) m.plan.queries.items m.state.kept.items place query k stands.2 query_there there in
@@ -146,3 +150,26 @@ unfolding setting_of
 few_kept m place is within =
     let long : length m.state.kept.items ≡ length m.plan.queries.items = AllZip-long (λ (q : Tcq) (k : Kept). Fits q (length m.plan.ontology.individuals) k) m.plan.queries.items m.state.kept.items is.fits in
     (omega (arith, is.plan.within.few), omega arith)
+
+-- a monitor holds no more than the units of what it watches
+pub held_few : (m : Monitored) (size : ℕ) → IsMonitored m → size ≡ sum_by length m.state.store → All IsChain m.state.store → size ≤ units_in (setting_of m)
+unfolding setting_of
+held_few m size is size_is chains =
+    let table : (query : Tcq) → Contains m.plan.queries.items query → IsTcq query.vars query.nodes = λ query there. All-contains (λ (q : Tcq). IsTcq q.vars q.nodes) m.plan.queries.items query is.plan.tables there in
+    omega (arith, size_is, store_few (length m.plan.ontology.individuals) m.plan.queries.items m.state.kept.items m.state.store table is.fits is.state.stored chains)
+
+-- and keeps of one query no more than its units
+pub size_few : (m : Monitored) (place : ℕ) (k : Kept) (size : ℕ) → IsMonitored m → slice_get m.state.kept.items place ≡ Some k → IsClausesOf k size → IsFewAt (setting_of m) place size
+unfolding setting_of
+size_few m place k size is there (store, stored, chains, size_is) query query_there =
+    let count = length m.plan.ontology.individuals in
+    let queries = m.plan.queries.items in
+    let fits : Fits query count k = fit_at m.plan.ontology queries m.state.kept.items place query k is.fits query_there there in
+    let in_queries : Contains queries query = (place, slice_get_within queries place query query_there, get_or_from_slice_get queries place query query query_there) in
+    let table : IsTcq query.vars query.nodes = All-contains (λ (q : Tcq). IsTcq q.vars q.nodes) queries query is.plan.tables in_queries in
+    omega (
+      arith,
+      size_is,
+      sum_by-cons (units_of count) query [],
+      store_few count (query ∷ []) (k ∷ []) store (λ q one. subst (λ (x : Tcq). IsTcq x.vars x.nodes) (Contains-single query q one) table) (fits, tt) stored chains,
+    )

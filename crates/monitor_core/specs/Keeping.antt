@@ -5,6 +5,7 @@ use Rattle.dl_syntax.specs.Ontology.{Declared}
 use Rattle.dl_syntax.specs.declared.ontology.Inclusion.{Inclusion}
 use Rattle.tcq_syntax.specs.Histories.{empty_history}
 use Rattle.tcq_syntax.specs.Tcq.{Tcq}
+use Rattle.antichains.specs.Chain.{IsChain}
 use Rattle.formula_store.specs.Interned.{AreDistinct}
 use Rattle.answer_tables.specs.Table.{Chains, HasChain}
 use Rattle.progression.specs.Kept.{Fits, StandsFor}
@@ -32,11 +33,15 @@ pub record IsStoreOf (kept : List Kept) (store : List (List ℕ)) : Type 0 where
 
 -- the total length of the distinct chains that are kept of one query
 abbrev pub IsClausesOf : Kept → ℕ → Type 0
-IsClausesOf k size = (store : List (List ℕ)) × IsStoreOf (k ∷ []) store × (size ≡ sum_by length store)
+IsClausesOf k size = (store : List (List ℕ)) × IsStoreOf (k ∷ []) store × All IsChain store × (size ≡ sum_by length store)
+
+-- what is kept of each query counts the snapshots that the state counts
+abbrev pub AreCounted : State → Type 0
+AreCounted state = All (λ k. k.count ≡ state.count) state.kept.items
 
 -- all count the same snapshots, and the chains are those of the kept tables
 pub record IsState (state : State) : Type 0 where
-  pub counts : All (λ k. k.count ≡ state.count) state.kept.items
+  pub counts : AreCounted state
   pub stored : IsStoreOf state.kept.items state.store
 
 -- what is kept of each query fits it

@@ -1,17 +1,15 @@
 // The next snapshot.
-ghost use Rattle.std.specs.Prelude.{◌≡◌, ◌<◌, ℕ, List, Some, length, slice_get, Err, IfOk, OnErr};
+ghost use Rattle.std.specs.Prelude.{◌≡◌, ◌<◌, ℕ, List, Some, length, slice_get, Err, IfOk, OnOk, OnErr};
 ghost use Rattle.std.specs.List.{AllZip};
 ghost use Rattle.dl_syntax.specs.declared.facts.Fact.{Fact};
-ghost use Rattle.tcq_syntax.specs.Histories.{History};
 ghost use Rattle.tcq_syntax.specs.Tcq.{Tcq};
 ghost use Rattle.progression.specs.Kept.{Fits};
-ghost use Rattle.consistency.specs.Least.{IsLeastClash, IsConsistentUnder};
-ghost use Rattle.monitor_core.specs.Answering.{AreOver, AreRowsOf};
+ghost use Rattle.monitor_core.specs.Answering.{AreOver};
 ghost use Rattle.monitor_core.specs.Planning.{IsPlan};
 ghost use Rattle.monitor_core.specs.Leaves.{AreUnionAnswers, AreLeafRelations};
-ghost use Rattle.monitor_core.specs.Keeping.{AllFit, IsMonitored};
-ghost use Rattle.monitor_core.specs.Advancing.{AreSeen, Advances, AllAdvance};
-ghost use Rattle.monitor_core.specs.Standing.{Stands, Accepts, IsNext, setting_of};
+ghost use Rattle.monitor_core.specs.Keeping.{AllFit, AreCounted, IsMonitored};
+ghost use Rattle.monitor_core.specs.Advancing.{one_more, AreSeen, Advances, AllAdvance};
+ghost use Rattle.monitor_core.specs.Standing.{IsNext, Takes, AreRowsIn, IsConsistentIn, IsLeastIn, setting_of};
 
 use crate::accept_fault::AcceptFault;
 use crate::leaves::{leaf_answers, relations_at};
@@ -135,14 +133,20 @@ impl Plan {
 }
 
 impl Monitor {
-    /// Takes the next snapshot, and gives the answers of each query then. A snapshot that is inconsistent is refused with the least clash that it meets. A refused snapshot changes nothing.
+    /// Takes the next snapshot, and gives the answers of each query then. It is counted, as far as
+    /// numbers go. A snapshot that is inconsistent is refused with the least clash that it meets. A
+    /// refused snapshot changes nothing.
     pub fn accept(&mut self, alloc: Global, snapshot: &Snapshot) -> Result<Vec<Tuples>, AcceptFault>
         requires { AreOver (setting_of self.old).ontology snapshot.now }
+        ensures plan { self.new.plan ≡ self.old.plan }
         ensures setting { setting_of self.new ≡ setting_of self.old }
-        ensures rows { IfOk result (λ answers. AreRowsOf (setting_of self.old).ontology (setting_of self.old).queries answers.items) }
-        ensures consistent { IfOk result (λ answers. IsConsistentUnder (setting_of self.old).ontology snapshot.now) }
-        ensures ok { IfOk result (λ answers. (history : History) → Stands self.old history → Accepts self.old self.new snapshot.now answers.items history) }
-        ensures contradiction { (number : ℕ) → result ≡ Err (AcceptFault.Contradiction number) → IsLeastClash (setting_of self.old).ontology snapshot.now number }
+        ensures counted { OnOk result (self.new.state.count ≡ one_more self.old.state.count) }
+        ensures each { AreCounted self.new.state }
+        ensures rows { IfOk result (λ answers. AreRowsIn (setting_of self.old) answers.items) }
+        ensures consistent { OnOk result (IsConsistentIn (setting_of self.old) snapshot.now) }
+        ensures ok { IfOk result (λ answers. Takes self.old self.new snapshot.now answers.items) }
+        ensures contradiction { (number : ℕ) → result ≡ Err (AcceptFault.Contradiction number) →
+            IsLeastIn (setting_of self.old) snapshot.now number }
         ensures err { OnErr result (self.new ≡ self.old) }
     {
         let facts = self.plan.closed(alloc, snapshot)?;

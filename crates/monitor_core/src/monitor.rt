@@ -1,8 +1,7 @@
-ghost use Rattle.std.specs.Prelude.{◌≡◌, ◌<◌, ◌∷◌, [], length, IfOk, Some, slice_get};
+ghost use Rattle.std.specs.Prelude.{◌≡◌, ◌<◌, ◌≤◌, length, IfOk};
 ghost use Rattle.tcq_syntax.specs.Histories.{History};
-ghost use Rattle.tcq_syntax.specs.Tcq.{Tcq};
-ghost use Rattle.tcq_syntax.specs.Kept.{IsKeptSize};
-ghost use Rattle.monitor_core.specs.Standing.{Stands, setting_of, count_of};
+ghost use Rattle.monitor_core.specs.Standing.{Stands, HoldsSize, KeepsSize, IsFewAt};
+ghost use Rattle.monitor_core.specs.Standing.{setting_of, count_of, units_in};
 
 use crate::plan::Plan;
 use crate::state::{State, clauses_of};
@@ -48,22 +47,27 @@ impl Monitor {
 
     /// How many snapshots were accepted, or the greatest number where there were more.
     pub fn count(&self) -> u64
-        ensures { (history : History) → Stands self.now history → result ≡ count_of history }
+        ensures state { result ≡ self.now.state.count }
+        ensures history { (history : History) → Stands self.now history → result ≡ count_of history }
     {
         self.state.count
     }
 
-    /// How many sets are held: the total length of the distinct chains that are kept.
+    /// How many sets are held: the total length of the distinct chains that are kept. They are no
+    /// more than the units of the queries, after any snapshots.
     pub fn held(&self) -> u64
-        ensures { (history : History) → Stands self.now history → IsKeptSize (setting_of self.now).ontology.inclusions (length (setting_of self.now).ontology.individuals) history (setting_of self.now).queries result }
+        ensures kept { HoldsSize self.now result }
+        ensures few { result ≤ units_in (setting_of self.now) }
     {
         self.state.store.clauses()
     }
 
-    /// How many sets are kept of the query at the place: the total length of the distinct chains of its kept tables.
+    /// How many sets are kept of the query at the place: the total length of the distinct chains of
+    /// its kept tables. They are no more than the query's units.
     pub fn kept_size(&self, alloc: Global, place: usize) -> Result<u64, Memory>
         requires { place < length (setting_of self.now).queries }
-        ensures { IfOk result (λ size. (history : History) (query : Tcq) → Stands self.now history → slice_get (setting_of self.now).queries place ≡ Some query → IsKeptSize (setting_of self.now).ontology.inclusions (length (setting_of self.now).ontology.individuals) history (query ∷ []) size) }
+        ensures kept { IfOk result (KeepsSize self.now place) }
+        ensures few { IfOk result (IsFewAt (setting_of self.now) place) }
     {
         let kept = self.state.kept.as_slice();
         clauses_of(alloc, &kept[place])

@@ -60,7 +60,7 @@ find_entry (e ∷ entries) place there = elim (eqb_tells e.0 place) [
 ]
 
 -- a future node's number is below the number of future nodes
-named : (nodes : List Node) → IsTable nodes → (place : ℕ) → EachFuture (HasNumberBelow (futures nodes)) (formula_at nodes place)
+pub named : (nodes : List Node) → IsTable nodes → (place : ℕ) → EachFuture (HasNumberBelow (futures nodes)) (formula_at nodes place)
 named nodes table place = EachFuture-formula_at (HasNumberBelow (futures nodes)) nodes table each place
   where
     each : (place : ℕ) (n : Node) → slice_get nodes place ≡ Some n → is_future n ≡ true → HasNumberBelow (futures nodes) (formula_of (formula_at nodes) (number_at nodes place) n)

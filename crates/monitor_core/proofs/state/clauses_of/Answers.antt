@@ -15,4 +15,4 @@ returns c =
     let gathered : AddsChains (KeepsChain (k ∷ [])) [] links = adds_same (KeepsOf k) (KeepsChain (k ∷ [])) [] links
     (λ chain. (λ keeps. (k, Contains-first k [], keeps), λ has. subst (λ (x : Kept). KeepsOf x chain) (sym (Contains-single k has.0 has.1)) has.2)) one in
     let list : c.in_ok-store.store ≡ interned_all [] links = c.in_ok-store.ensures.list ∙ ap (interned_all []) c.as_slice.ensures.value in
-    (c.in_ok-store.store, store_of generation (k ∷ []) links c.in_ok-store.store gathered list, c.clauses.ensures)
+    (c.in_ok-store.store, store_of generation (k ∷ []) links c.in_ok-store.store gathered list, c.clauses.ensures.chains, c.clauses.ensures.total)

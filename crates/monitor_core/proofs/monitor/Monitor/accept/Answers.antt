@@ -5,6 +5,7 @@ use Rattle.dl_syntax.specs.Ontology.{Declared}
 use Rattle.consistency.specs.Least.{IsFirstClash, IsLeastClash, IsConsistentUnder}
 use Rattle.monitor_core.specs.Keeping.{Monitored}
 use Rattle.monitor_core.specs.Answering.{AreOver, AreRowsOf}
+use Rattle.monitor_core.specs.Advancing.{one_more}
 use Rattle.monitor_core.specs.Standing.{Stands, Accepts, setting_of}
 use Rattle.monitor_core.proofs.Seeing.{agree_on_clashes}
 use Rattle.monitor_core.proofs.Accepting.{over_setting}
@@ -32,6 +33,12 @@ invariant_of-self c = c.self.invariant
 
 pub invariant_of-self-2 : goal.invariant_of-self-2
 invariant_of-self-2 c = still_monitored (record { plan = c.self.inside.plan; state = c.self.inside.state }) c.in_ok-facts.facts c.in_ok-state.state c.in_ok-state.answers.items c.in_ok-state.ensures c.self.invariant
+
+pub returns-clause-plan : goal.returns-clause-plan
+returns-clause-plan c = ap (λ (m : Monitored). m.plan) c.self.view_is
+
+pub returns-clause-counted : goal.returns-clause-counted
+returns-clause-counted c = subst (λ (m : Monitored). c.in_ok-state.state.count ≡ one_more m.state.count) c.self.view_is c.in_ok-state.ensures.counted
 
 pub returns-clause-setting : goal.returns-clause-setting
 unfolding setting_of

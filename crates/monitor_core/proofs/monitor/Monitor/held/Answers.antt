@@ -1,12 +1,15 @@
-use Rattle.std.proofs.Common.{length, subst}
-use Rattle.tcq_syntax.specs.Histories.{History}
-use Rattle.tcq_syntax.specs.Kept.{IsKeptSize}
+use Rattle.std.proofs.Common.{◌≤◌, subst}
 use Rattle.monitor_core.specs.Keeping.{Monitored}
-use Rattle.monitor_core.specs.Standing.{Stands, setting_of}
-use Rattle.monitor_core.proofs.Sizes.{held_size}
+use Rattle.monitor_core.specs.Standing.{HoldsSize, setting_of, units_in}
+use Rattle.monitor_core.proofs.Sizes.{held_few, held_size}
 use Rattle.monitor_core.proofs.monitor.Monitor.held.Goals as goal
 
-pub returns : goal.returns
-returns c =
-    subst (λ (m : Monitored). (history : History) → Stands m history → IsKeptSize (setting_of m).ontology.inclusions (length (setting_of m).ontology.individuals) history (setting_of m).queries c.clauses.result) c.self.view_is
-    (λ history stands. held_size (record { plan = c.self.inside.plan; state = c.self.inside.state }) history c.clauses.result c.self.invariant c.clauses.ensures stands)
+pub returns-clause-kept : goal.returns-clause-kept
+returns-clause-kept c =
+    subst (λ (m : Monitored). HoldsSize m c.clauses.result) c.self.view_is
+    (λ history stands. held_size (record { plan = c.self.inside.plan; state = c.self.inside.state }) history c.clauses.result c.self.invariant c.clauses.ensures.total stands)
+
+pub returns-clause-few : goal.returns-clause-few
+returns-clause-few c =
+    subst (λ (m : Monitored). c.clauses.result ≤ units_in (setting_of m)) c.self.view_is
+    (held_few (record { plan = c.self.inside.plan; state = c.self.inside.state }) c.clauses.result c.self.invariant c.clauses.ensures.total c.clauses.ensures.chains)
