@@ -3,3 +3,4 @@ pub mod Numbers
 pub mod Declared
 pub mod Declarable
 pub mod LinesAdded
+pub mod RoundTrips

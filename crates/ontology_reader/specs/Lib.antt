@@ -3,3 +3,5 @@ pub mod Views
 pub mod Adding
 pub mod Answers
 pub mod Texts
+pub mod Spelling
+pub mod Laws

@@ -2,6 +2,7 @@
 #![tactic(auto)]
 
 mod adding;
+pub mod laws;
 mod sayings;
 mod texts;
 mod words;

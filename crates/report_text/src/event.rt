@@ -7,7 +7,7 @@ ghost use Rattle.report_text.specs.Objects.{object_text};
 ghost use Rattle.report_text.specs.Events.{AreAnswered, EventHasNames, event_text, items_of, query_items, report_heading_text};
 
 use crate::item::Cause;
-use crate::line::{LineForm, append_kept, append_refused, append_two, heading, try_append_answers};
+use crate::line::{LineForm, append_answers, append_kept, append_refused, append_two, heading};
 use crate::object::{append_accepted_object, append_end_object, append_refused_object, size_of};
 use crate::row::{
     append_accepted_row, append_answer_rows, append_end_row, append_kept_row, append_refused_row,
@@ -19,7 +19,8 @@ use tcq_syntax::Query;
 /// What happened to a line of the stream, or its end.
 #[derive(Debug, Drop)]
 pub enum Event {
-    /// The line with this number was accepted, as the snapshot with this number in the whole history.
+    /// The line with this number was accepted, as the snapshot with this number in the whole
+    /// history.
     Accepted {
         line: u64,
         number: u64,
@@ -75,7 +76,8 @@ pub fn append_event(
     queries: &[Query],
 ) -> Result<(), Memory>
     requires { EventHasNames ontology.now queries.now event.now }
-    ensures ok { OnOk result (out.new.items ≡ out.old.items ++ event_text form ontology.now queries.now event.now) }
+    ensures ok { OnOk result (out.new.items ≡ out.old.items
+        ++ event_text form ontology.now queries.now event.now) }
     ensures err { OnErr result (out.new.items ≡ out.old.items) }
 {
     let start = out.len();
@@ -110,7 +112,8 @@ fn try_append_event(
     queries: &[Query],
 ) -> Result<(), Memory>
     requires { EventHasNames ontology.now queries.now event.now }
-    ensures ok { OnOk result (out.new.items ≡ out.old.items ++ event_text form ontology.now queries.now event.now) }
+    ensures ok { OnOk result (out.new.items ≡ out.old.items
+        ++ event_text form ontology.now queries.now event.now) }
     ensures kept { take (vec_len out.old) out.new.items ≡ out.old.items }
 {
     match form {
@@ -127,7 +130,8 @@ fn append_object(
     queries: &[Query],
 ) -> Result<(), Memory>
     requires { EventHasNames ontology.now queries.now event.now }
-    ensures ok { OnOk result (out.new.items ≡ out.old.items ++ object_text ontology.now queries.now event.now) }
+    ensures ok { OnOk result (out.new.items ≡ out.old.items
+        ++ object_text ontology.now queries.now event.now) }
     ensures kept { take (vec_len out.old) out.new.items ≡ out.old.items }
 {
     match event {
@@ -154,7 +158,8 @@ fn append_items(
     queries: &[Query],
 ) -> Result<(), Memory>
     requires { EventHasNames ontology.now queries.now event.now }
-    ensures ok { OnOk result (out.new.items ≡ out.old.items ++ flat_map (line_in form ontology.now queries.now) (items_of event.now)) }
+    ensures ok { OnOk result (out.new.items ≡ out.old.items
+        ++ flat_map (line_in form ontology.now queries.now) (items_of event.now)) }
     ensures kept { take (vec_len out.old) out.new.items ≡ out.old.items }
 {
     match event {
@@ -222,16 +227,18 @@ fn append_rows(
 ) -> Result<(), Memory>
     requires named { AreNamed ontology.now rows.now.rows }
     requires spelled { IsName query.now }
-    ensures ok { OnOk result (out.new.items ≡ out.old.items ++ answers_in form ontology.now.individuals told.line told.number query.now rows.now.rows) }
+    ensures ok { OnOk result (out.new.items ≡ out.old.items
+        ++ answers_in form ontology.now.individuals told.line told.number query.now rows.now.rows) }
     ensures kept { take (vec_len out.old) out.new.items ≡ out.old.items }
 {
     match form {
-        LineForm::Text => try_append_answers(out, query, ontology, rows),
+        LineForm::Text => append_answers(out, query, ontology, rows),
         LineForm::Csv => append_answer_rows(out, told.line, told.number, query, ontology, rows),
     }
 }
 
-/// Appends the line that tells a size, where there is one. What stood before stays, also on an error.
+/// Appends the line that tells a size, where there is one. What stood before stays, also on an
+/// error.
 fn append_size(
     out: &mut Vec<u8>,
     form: LineForm,
@@ -262,7 +269,9 @@ fn append_query(
 ) -> Result<(), Memory>
     requires named { AreNamed ontology.now rows.now.rows }
     requires spelled { IsName query.now }
-    ensures ok { OnOk result (out.new.items ≡ out.old.items ++ (answers_in form ontology.now.individuals told.line told.number query.now rows.now.rows ++ size_in form told.line query.now size)) }
+    ensures ok { OnOk result (out.new.items ≡ out.old.items
+        ++ (answers_in form ontology.now.individuals told.line told.number query.now
+        rows.now.rows ++ size_in form told.line query.now size)) }
     ensures kept { take (vec_len out.old) out.new.items ≡ out.old.items }
 {
     append_rows(out, form, told, query, ontology, rows)?;
@@ -281,7 +290,9 @@ fn append_queries(
 ) -> Result<(), Memory>
     requires answered { AreAnswered ontology.now queries.now kept.now answers.now }
     requires spelled { AreSpelled queries.now }
-    ensures ok { OnOk result (out.new.items ≡ out.old.items ++ flat_map (line_in form ontology.now queries.now) (query_items told.line told.number kept.now 0 answers.now)) }
+    ensures ok { OnOk result (out.new.items ≡ out.old.items
+        ++ flat_map (line_in form ontology.now queries.now)
+        (query_items told.line told.number kept.now 0 answers.now)) }
     ensures kept { take (vec_len out.old) out.new.items ≡ out.old.items }
 {
     for place in 0..answers.len() {

@@ -14,5 +14,5 @@ mod tests;
 
 pub use event::{Event, ReportForm, append_event, render_object, report_heading};
 pub use item::{Cause, Item};
-pub use line::{LineForm, append_answers, append_line, heading, render_line};
+pub use line::{LineForm, heading, render_line};
 pub use query::{append_cq, append_leaf, render_cq};

@@ -64,7 +64,8 @@ pub(crate) fn append_row(
     row: &[IndId],
 ) -> Result<(), Memory>
     requires { IsNamed ontology.now row.now }
-    ensures ok { OnOk result (out.new.items ≡ out.old.items ++ row_text ontology.now.individuals row.now) }
+    ensures ok { OnOk result (out.new.items ≡ out.old.items
+        ++ row_text ontology.now.individuals row.now) }
     ensures kept { take (vec_len out.old) out.new.items ≡ out.old.items }
 {
     for individual in row {
@@ -82,7 +83,8 @@ fn append_answer(
     row: &[IndId],
 ) -> Result<(), Memory>
     requires { IsNamed ontology.now row.now }
-    ensures ok { OnOk result (out.new.items ≡ out.old.items ++ answer_text ontology.now.individuals query.now row.now) }
+    ensures ok { OnOk result (out.new.items ≡ out.old.items
+        ++ answer_text ontology.now.individuals query.now row.now) }
     ensures kept { take (vec_len out.old) out.new.items ≡ out.old.items }
 {
     out.extend_from_slice(b"answer ")?;
@@ -92,39 +94,21 @@ fn append_answer(
 }
 
 /// Appends the answers of one query. What stood before stays, also on an error.
-pub(crate) fn try_append_answers(
+pub(crate) fn append_answers(
     out: &mut Vec<u8>,
     query: &[u8],
     ontology: &Ontology,
     rows: &Tuples,
 ) -> Result<(), Memory>
     requires { AreNamed ontology.now rows.now.rows }
-    ensures ok { OnOk result (out.new.items ≡ out.old.items ++ answers_text ontology.now.individuals query.now rows.now.rows) }
+    ensures ok { OnOk result (out.new.items ≡ out.old.items
+        ++ answers_text ontology.now.individuals query.now rows.now.rows) }
     ensures kept { take (vec_len out.old) out.new.items ≡ out.old.items }
 {
     for place in 0..rows.len() {
         append_answer(out, query, ontology, rows.row(place))?;
     }
     Ok(())
-}
-
-/// Appends a line for each row of a query's answers. The buffer is as before where memory runs out.
-pub fn append_answers(
-    out: &mut Vec<u8>,
-    query: &Query,
-    ontology: &Ontology,
-    rows: &Tuples,
-) -> Result<(), Memory>
-    requires { AreNamed ontology.now rows.now.rows }
-    ensures ok { OnOk result (out.new.items ≡ out.old.items ++ answers_text ontology.now.individuals query.now.name rows.now.rows) }
-    ensures err { OnErr result (out.new.items ≡ out.old.items) }
-{
-    let start = out.len();
-    let done = try_append_answers(out, query.name().bytes(), ontology, rows);
-    if done.is_err() {
-        out.truncate(start);
-    }
-    done
 }
 
 /// Appends a word and two numbers after words.
@@ -135,7 +119,8 @@ pub(crate) fn append_two(
     between: &[u8],
     second: u64,
 ) -> Result<(), Memory>
-    ensures ok { OnOk result (out.new.items ≡ out.old.items ++ two_text before.now first between.now second) }
+    ensures ok { OnOk result (out.new.items ≡ out.old.items
+        ++ two_text before.now first between.now second) }
     ensures kept { take (vec_len out.old) out.new.items ≡ out.old.items }
 {
     out.extend_from_slice(before)?;
@@ -177,7 +162,8 @@ fn append_item_text(
     queries: &[Query],
 ) -> Result<(), Memory>
     requires { HasNames ontology.now queries.now item.now }
-    ensures ok { OnOk result (out.new.items ≡ out.old.items ++ line_text ontology.now queries.now item.now) }
+    ensures ok { OnOk result (out.new.items ≡ out.old.items
+        ++ line_text ontology.now queries.now item.now) }
     ensures kept { take (vec_len out.old) out.new.items ≡ out.old.items }
 {
     match item {
@@ -201,7 +187,7 @@ fn append_item_text(
 }
 
 /// Appends the line of an item in this form. What stood before stays, also on an error.
-fn try_append_line(
+fn append_item(
     out: &mut Vec<u8>,
     item: &Item,
     form: LineForm,
@@ -210,34 +196,14 @@ fn try_append_line(
 ) -> Result<(), Memory>
     requires named { HasNames ontology.now queries.now item.now }
     requires spelled { IsSpelledIn form queries.now item.now }
-    ensures ok { OnOk result (out.new.items ≡ out.old.items ++ line_in form ontology.now queries.now item.now) }
+    ensures ok { OnOk result (out.new.items ≡ out.old.items
+        ++ line_in form ontology.now queries.now item.now) }
     ensures kept { take (vec_len out.old) out.new.items ≡ out.old.items }
 {
     match form {
         LineForm::Text => append_item_text(out, item, ontology, queries),
         LineForm::Csv => append_item_row(out, item, ontology, queries),
     }
-}
-
-/// Appends the line of an item in this form. The buffer is as before where memory runs out.
-pub fn append_line(
-    out: &mut Vec<u8>,
-    item: &Item,
-    form: LineForm,
-    ontology: &Ontology,
-    queries: &[Query],
-) -> Result<(), Memory>
-    requires named { HasNames ontology.now queries.now item.now }
-    requires spelled { IsSpelledIn form queries.now item.now }
-    ensures ok { OnOk result (out.new.items ≡ out.old.items ++ line_in form ontology.now queries.now item.now) }
-    ensures err { OnErr result (out.new.items ≡ out.old.items) }
-{
-    let start = out.len();
-    let done = try_append_line(out, item, form, ontology, queries);
-    if done.is_err() {
-        out.truncate(start);
-    }
-    done
 }
 
 /// The exact bytes of the line of an item.
@@ -253,6 +219,6 @@ pub fn render_line(
     ensures { IfOk result (λ line. line.items ≡ line_in form ontology.now queries.now item.now) }
 {
     let mut line = Vec::new(alloc);
-    append_line(&mut line, item, form, ontology, queries)?;
+    append_item(&mut line, item, form, ontology, queries)?;
     Ok(line)
 }

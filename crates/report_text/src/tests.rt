@@ -3,8 +3,11 @@ ghost use Rattle.std.specs.Prelude.{◌≡◌, [], IfOk, codes};
 ghost use Rattle.dl_syntax.specs.Ontology.{nothing_declared};
 ghost use Rattle.report_text.specs.Events.{HasAnswers, IsSpelledEvent};
 
-use crate::{Cause, Event, LineForm, ReportForm, append_event, heading, render_cq, report_heading};
-use dl_syntax::{Atom, Cq, Items, Kind, Memory, Name, Ontology, RoleId, Term};
+use crate::{
+    Cause, Event, Item, LineForm, ReportForm, append_event, heading, render_cq, render_line,
+    render_object, report_heading,
+};
+use dl_syntax::{Atom, Cq, Items, Kind, Memory, Name, Ontology, RoleId, Term, Tuples};
 use std::alloc::Global;
 use tcq_syntax::{Node, Query};
 
@@ -106,4 +109,45 @@ fn query_f(alloc: Global) -> Result<Query, Memory>
     let name = Name::new(alloc, b"f")?;
     let nodes = Vec::from_array(alloc, [Node::True])?;
     Ok(Query::new(name, 1, nodes))
+}
+
+/// The line in this form that tells how much the query `f` keeps.
+fn line_of_kept(alloc: Global, form: LineForm) -> Result<Vec<u8>, Memory> {
+    let ontology = Ontology::new(alloc);
+    let queries = Vec::from_array(alloc, [query_f(alloc)?])?;
+    let item = Item::Kept {
+        line: 1,
+        query: 0,
+        size: 2,
+    };
+    render_line(alloc, &item, form, &ontology, queries.as_slice())
+}
+
+#[test]
+fn renders_lines(rt: HostRuntime) {
+    let text = line_of_kept(rt.alloc(), LineForm::Text).expect(&rt, "memory");
+    assert_eq!(rt; text.as_slice(), b"kept f 2\n".as_slice());
+    let row = line_of_kept(rt.alloc(), LineForm::Csv).expect(&rt, "memory");
+    assert_eq!(rt; row.as_slice(), b"1,kept,2,f,\n".as_slice());
+}
+
+/// The object of a line after which the query `f` has no answers.
+fn object_without_answers(alloc: Global) -> Result<Vec<u8>, Memory> {
+    let ontology = Ontology::new(alloc);
+    let queries = Vec::from_array(alloc, [query_f(alloc)?])?;
+    let answers = Vec::from_array(alloc, [Tuples::new(alloc, 1)])?;
+    let event = Event::Accepted {
+        line: 1,
+        number: 1,
+        answers: Items::from_vec(answers),
+        kept: None,
+    };
+    render_object(alloc, &event, &ontology, queries.as_slice())
+}
+
+#[test]
+fn renders_objects(rt: HostRuntime) {
+    let line = object_without_answers(rt.alloc()).expect(&rt, "memory");
+    let wanted = b"{\"accepted\":1,\"answers\":[{\"query\":\"f\",\"tuples\":[]}],\"line\":1}\n";
+    assert_eq!(rt; line.as_slice(), wanted.as_slice());
 }

@@ -2,7 +2,7 @@ use Rattle.std.proofs.Common.{◌≡◌, ◌++◌, get_or, sym, ◌∙◌, ap, a
 use Rattle.std.proofs.lemmas.Option.{get_or_from_slice_get}
 use Rattle.report_text.proofs.Pieces.{piece_more, kept_first}
 use Rattle.report_text.specs.Lines.{answer_text}
-use Rattle.report_text.proofs.line.try_append_answers.Goals as goal
+use Rattle.report_text.proofs.line.append_answers.Goals as goal
 
 pub returns-in_err-append_answer-clause-kept : goal.returns-in_err-append_answer-clause-kept
 returns-in_err-append_answer-clause-kept c =

@@ -1,0 +1,20 @@
+-- Laws of what the words of a line say.
+use Rattle.std.specs.Prelude.{◌≡◌, ◌≢◌, ◌↔◌, ℕ, List, Some}
+use Rattle.text_scan.specs.Lexing.{lexed}
+use Rattle.ontology_reader.specs.Sayings.{Word, Saying, has_no_form, words_say, words_read, line_says}
+use Rattle.ontology_reader.specs.Spelling.{spelled}
+
+-- the words that spell a saying say it
+abbrev pub SpellingsSay : Type 0
+SpellingsSay = (saying : Saying) (words : List Word)
+    → spelled saying ≡ Some words → words_say words ≡ saying
+
+-- words that have a form are the spelling of what they say
+abbrev pub SayingsAreSpelled : Type 0
+SayingsAreSpelled = (words : List Word)
+    → words_say words ≢ has_no_form → spelled (words_say words) ≡ Some words
+
+-- a line says what has a form exactly where its words are the spelling of that
+abbrev pub LinesSaySpellings : Type 0
+LinesSaySpellings = (line : List ℕ) (saying : Saying) → saying ≢ has_no_form
+    → (line_says line ≡ saying) ↔ (words_read (lexed 0 0 line) ≡ spelled saying)
