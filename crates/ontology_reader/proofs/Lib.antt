@@ -4,3 +4,4 @@ pub mod Declared
 pub mod Declarable
 pub mod LinesAdded
 pub mod RoundTrips
+pub mod WordsWritten

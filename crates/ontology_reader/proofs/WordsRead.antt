@@ -8,7 +8,7 @@ use Rattle.ontology_reader.specs.Sayings.{Word, word_of, is_name_kind, words_of,
 abbrev pub behind_words : List Word → Option (List Word) → Option (List Word)
 behind_words front rest = option_map (λ words. front ++ words) rest
 
-first_word : (l : Lexeme) (read : Lexed) → is_name_kind l.kind ≡ true → words_read (with_first l read) ≡ option_map (λ rest. word_of l.text ∷ rest) (words_read read)
+pub first_word : (l : Lexeme) (read : Lexed) → is_name_kind l.kind ≡ true → words_read (with_first l read) ≡ option_map (λ rest. word_of l.text ∷ rest) (words_read read)
 unfolding words_of
 first_word l read is_name = go read.fault
   where

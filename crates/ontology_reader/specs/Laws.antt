@@ -1,8 +1,9 @@
 -- Laws of what the words of a line say.
 use Rattle.std.specs.Prelude.{◌≡◌, ◌≢◌, ◌↔◌, ℕ, List, Some}
+use Rattle.std.specs.List.{All}
 use Rattle.text_scan.specs.Lexing.{lexed}
 use Rattle.ontology_reader.specs.Sayings.{Word, Saying, has_no_form, words_say, words_read, line_says}
-use Rattle.ontology_reader.specs.Spelling.{spelled}
+use Rattle.ontology_reader.specs.Spelling.{spelled, words_text, IsWritable}
 
 -- the words that spell a saying say it
 abbrev pub SpellingsSay : Type 0
@@ -18,3 +19,13 @@ SayingsAreSpelled = (words : List Word)
 abbrev pub LinesSaySpellings : Type 0
 LinesSaySpellings = (line : List ℕ) (saying : Saying) → saying ≢ has_no_form
     → (line_says line ≡ saying) ↔ (words_read (lexed 0 0 line) ≡ spelled saying)
+
+-- the bytes of words in a row are read as these words
+abbrev pub WordsAreRead : Type 0
+WordsAreRead = (words : List Word)
+    → All IsWritable words → words_read (lexed 0 0 (words_text words)) ≡ Some words
+
+-- the line of a saying's spelling says it
+abbrev pub SpelledLinesSay : Type 0
+SpelledLinesSay = (saying : Saying) (words : List Word)
+    → spelled saying ≡ Some words → All IsWritable words → line_says (words_text words) ≡ saying

@@ -2,6 +2,7 @@
 use Rattle.std.specs.Prelude.{ℕ, Bool, true, false, List, [], ◌∷◌, ◌++◌, Option, Some, None, codes}
 use Rattle.dl_syntax.specs.declared.names.Kind.{Kind}
 use Rattle.dl_syntax.specs.declared.names.Kind.TheVariants.{Concept, Role, Individual}
+use Rattle.dl_syntax.specs.Names.{IsDeclarable}
 use Rattle.ontology_reader.specs.Sayings.{Word, some, inv, name, RoleTerm, BasicTerm, concept, existing, Saying, nothing, declares, includes, includes_qualified, includes_roles, parts, parts_roles, has_no_form}
 
 -- the words of a role, or of its inverse
@@ -37,3 +38,26 @@ spelled (parts left right) =
 spelled (parts_roles left right) =
     Some (name (codes "disjointrole") ∷ (role_spelled left ++ role_spelled right))
 spelled has_no_form = None
+
+-- ---- the words as bytes
+
+abbrev pub word_text : Word → List ℕ
+word_text some = codes "some"
+word_text inv = codes "inv"
+word_text (name text) = text
+
+-- the bytes of the words behind another, each after a blank (32)
+abbrev pub behind_text : List Word → List ℕ
+behind_text [] = []
+behind_text (word ∷ rest) = 32 ∷ (word_text word ++ behind_text rest)
+
+-- the bytes of words in a row, with a blank between two
+abbrev pub words_text : List Word → List ℕ
+words_text [] = []
+words_text (word ∷ rest) = word_text word ++ behind_text rest
+
+-- a word that stands for a name is one that an ontology may declare
+abbrev pub IsWritable : Word → Type 0
+IsWritable some = Unit {0}
+IsWritable inv = Unit {0}
+IsWritable (name text) = IsDeclarable text
