@@ -12,6 +12,7 @@ pub mod FirstPlaces
 pub mod Composed
 pub mod Sizes
 pub mod NewVariable
+pub mod Backwards
 pub mod Saturated
 pub mod Shorter
 pub mod Numbered

@@ -1,9 +1,8 @@
 -- The core of a rewriting over a saturated snapshot.
-use Rattle.std.proofs.Common.{◌≡◌, ℕ, List, [], ◌∷◌, ◌++◌, length, map, refl, sym, ◌∙◌, ap, ap₂, subst, arith, inl, inr}
-use Rattle.std.proofs.Math.ListN.{set}
+use Rattle.std.proofs.Common.{◌≡◌, List, [], ◌∷◌, ◌++◌, map, refl, sym, ap, ap₂, subst, inl, inr}
 use Rattle.std.specs.Prelude.{◌⊎◌}
 use Rattle.std.specs.List.{All, Contains}
-use Rattle.std.proofs.lemmas.List.Elements.{All-cons, All-nil, All-head, All-tail, All-weaker, All-contains, Contains-append_left, Contains-push}
+use Rattle.std.proofs.lemmas.List.Elements.{All-cons, All-nil, All-head, All-tail, All-weaker, All-contains, Contains-append_left}
 use Rattle.dl_syntax.specs.declared.facts.Element.{Element}
 use Rattle.dl_syntax.specs.declared.facts.Element.TheVariants.{Ind as ind_element, Null}
 use Rattle.dl_syntax.specs.declared.facts.Fact.{Fact}
@@ -13,34 +12,21 @@ use Rattle.dl_syntax.specs.declared.ontology.Inclusion.{Inclusion}
 use Rattle.dl_syntax.specs.declared.ontology.Inclusion.TheVariants as inclusion
 use Rattle.dl_syntax.specs.declared.queries.Atom.{Atom}
 use Rattle.dl_syntax.specs.declared.queries.Cq.{Cq}
-use Rattle.dl_syntax.specs.Facts.{In, role_fact}
 use Rattle.dl_syntax.specs.Chase.{Run, Chase, start, step, Makes}
 use Rattle.dl_syntax.specs.Chase as chase
 use Rattle.dl_syntax.specs.Match.{Match, Assignment, term_at, atom_at, Certain}
-use Rattle.dl_syntax.proofs.RunLaws.{Run-step}
-use Rattle.dl_syntax.proofs.Nulls.{IsOld, HasOldElements, role_fact_old, In-old}
-use Rattle.query_unify.specs.Substitution.{applied_query}
-use Rattle.query_unify.specs.Table.{Becomes}
+use Rattle.dl_syntax.proofs.Nulls.{IsOld}
 use Rattle.query_unify.specs.Normal.{normalise}
-use Rattle.query_unify.specs.Reach.{Replaces, Reduces, replace, reduce, Steps, stay, go, Reach}
+use Rattle.query_unify.specs.Reach.{replace, reduce, Steps, stay, go, Reach}
 use Rattle.dl_syntax.specs.Facts.{IsIndividual, HasNoNull}
 use Rattle.dl_syntax.specs.Encode.{IsUnqualified}
 use Rattle.query_unify.specs.Laws.{Gives}
 use Rattle.query_unify.specs.Saturation.{HoldsInRun, IsSaturation, MakesNulls, IsCore, begin, made, CoreIsExact}
-use Rattle.query_unify.proofs.Matches.{Match-part, Match-whole, Gives-applied}
-use Rattle.query_unify.proofs.Places.{SplitsAt, splits_at}
 use Rattle.query_unify.proofs.NormalForm.{normal_gives_same}
 use Rattle.query_unify.proofs.MostGeneral.{as_term, as_atom}
-use Rattle.query_unify.proofs.Soundness.{Run-start, role_atom_at, basic_atom-In, Steps-sound}
+use Rattle.query_unify.proofs.Soundness.{Run-start, Steps-sound}
+use Rattle.query_unify.proofs.Backwards.{replace_goes_back, reduce_goes_back, saturation_is_closed}
 use Rattle.query_unify.proofs.Completeness.{fact_old, complete, reach_is_complete}
-
-individual_from : (e : Element) → IsOld 0 e → IsIndividual e
-individual_from (ind_element i) old = tt
-individual_from (Null n) old = absurd (omega (arith, old))
-
-fact_from : (f : Fact) → HasOldElements 0 f → HasNoNull f
-fact_from (fact.Concept c e) old = individual_from e old
-fact_from (fact.Role p e e') old = (individual_from e old.0, individual_from e' old.1)
 
 Gives-more : (q : Cq) (facts more : List Fact) (elements : List Element) → ((f : Fact) → Contains facts f → Contains more f) → Gives q facts elements → Gives q more elements
 Gives-more q facts more elements within g = record {
@@ -98,46 +84,6 @@ module _ (inclusions : List Inclusion) (snapshot : List Fact) (unqualified : All
               (All-weaker (λ z. Contains run (atom_at t z)) (λ z. Contains (run ++ more.0) (atom_at t z)) (λ z there. Contains-append_left run more.0 (atom_at t z) there) body earlier.2),
         )
 
-    -- what an inclusion makes of a saturated fact, where it is over individuals, is there
-    closed : (i : Inclusion) → Contains inclusions i → (f g : Fact) → Contains facts f → ((n : ℕ) → Makes i f n (g ∷ [])) → HasNoNull g → Contains facts g
-    closed i listed f g there makes is =
-        let held : HoldsInRun inclusions snapshot f = (saturated.sound f there).1 in
-        saturated.complete g is (held.0 ++ g ∷ [], Run-step inclusions snapshot held.0 (g ∷ []) i f held.1 listed held.2 (makes (length held.0)), Contains-push held.0 g)
-
-    -- a replacement that needs no null can be taken back
-    taken_back : (i : Inclusion) → Contains inclusions i → (MakesNulls i → ⊥) → (q : Cq) (v : ℕ) (a a' : Atom) → Becomes i q v a a' → (t : Assignment) → Contains facts (atom_at t a') → Contains facts (atom_at t a)
-    taken_back (inclusion.Concepts b (basic.Some r)) listed none q v a a' becomes t there = absurd (none tt)
-    taken_back (inclusion.Concepts b (basic.Concept c)) listed none q v a a' (x, asks, is) t there =
-        let f : Fact = atom_at t a' in
-        let inside : In b (term_at t x) f = subst (λ (z : Atom). In b (term_at t x) (atom_at t z)) (sym is) (basic_atom-In b t x v) in
-        let old : IsOld 0 (term_at t x) = In-old 0 b (term_at t x) f inside (fact_old f (saturated.sound f there).0) in
-        subst (Contains facts) (sym (ap (atom_at t) asks))
-        (closed (inclusion.Concepts b (basic.Concept c)) listed f (fact.Concept c (term_at t x)) there (λ n. (term_at t x, inside, refl)) (individual_from (term_at t x) old))
-    taken_back (inclusion.Roles r s) listed none q v a a' (x, y, was, is) t there =
-        let f : Fact = atom_at t a' in
-        let pair : f ≡ role_fact r (term_at t x) (term_at t y) = ap (atom_at t) is ∙ role_atom_at r t x y in
-        let old : IsOld 0 (term_at t x) × IsOld 0 (term_at t y) = (role_fact_old 0 r (term_at t x) (term_at t y)).0 (subst (HasOldElements 0) pair (fact_old f (saturated.sound f there).0)) in
-        let g : Fact = role_fact s (term_at t x) (term_at t y) in
-        subst (Contains facts) (sym (ap (atom_at t) was ∙ role_atom_at s t x y))
-        (closed (inclusion.Roles r s) listed f g there (λ n. (term_at t x, term_at t y, pair, refl)) (fact_from g ((role_fact_old 0 s (term_at t x) (term_at t y)).1 old)))
-    taken_back (inclusion.Qualified b r c) listed none q v a a' becomes t there = absurd becomes
-
-    replace_back : (i : Inclusion) (place : ℕ) → Contains inclusions i → (MakesNulls i → ⊥) → (q q' : Cq) (elements : List Element) → Replaces i place q q' → Gives q' facts elements → Gives q facts elements
-    replace_back i place listed none q q' elements r given =
-        let split : SplitsAt q.body place r.old = splits_at q.body place r.old r.at in
-        let before : Gives (record { head = q.head; body = set q.body place r.new }) facts elements = (normal_gives_same (record { head = q.head; body = set q.body place r.new }) facts elements).0 (subst (λ (z : Cq). Gives z facts elements) r.result given) in
-        let t : Assignment = before.assignment in
-        let parts : Match split.front facts t × Contains facts (atom_at t r.new) × Match split.rest facts t = Match-part split.front r.new split.rest facts t (subst (λ (body : List Atom). Match body facts t) (split.changed r.new) before.match) in
-        record {
-          assignment = t;
-          match = subst (λ (body : List Atom). Match body facts t) (sym split.whole) (Match-whole split.front r.old split.rest facts t parts.0 (taken_back i listed none q r.variable r.old r.new r.becomes t parts.1) parts.2);
-          head = before.head;
-        }
-
-    reduce_back : (j k : ℕ) (q q' : Cq) (elements : List Element) → Reduces j k q q' → Gives q' facts elements → Gives q facts elements
-    reduce_back j k q q' elements r given =
-        Gives-applied r.unifier q facts elements ((normal_gives_same (applied_query r.unifier q) facts elements).0 (subst (λ (z : Cq). Gives z facts elements) r.result given))
-
     makes_nulls : (i : Inclusion) → MakesNulls i ⊎ (MakesNulls i → ⊥)
     makes_nulls (inclusion.Concepts b (basic.Concept c)) = inr (λ h. h)
     makes_nulls (inclusion.Concepts b (basic.Some r)) = inl tt
@@ -147,11 +93,11 @@ module _ (inclusions : List Inclusion) (snapshot : List Fact) (unqualified : All
     -- walked back to the last replacement that needs a null, or to the start
     to_core : (q : Cq) (elements : List Element) (last : Cq) → Steps inclusions (normalise q) last → Gives last facts elements → (member : Cq) × IsCore inclusions q member × Gives member facts elements
     to_core q elements last stay given = (normalise q, begin refl, given)
-    to_core q elements last (go {last = before} steps (reduce j k order r)) given = to_core q elements before steps (reduce_back j k before last elements r given)
+    to_core q elements last (go {last = before} steps (reduce j k order r)) given = to_core q elements before steps (reduce_goes_back facts j k before last elements r given)
     to_core q elements last (go {last = before} steps (replace i place listed r)) given =
         elim (makes_nulls i) [
           | inl makes ↦ (last, made before i place steps listed makes r, given)
-          | inr none ↦ to_core q elements before steps (replace_back i place listed none before last elements r given)
+          | inr none ↦ to_core q elements before steps (replace_goes_back inclusions facts i place before last elements (saturation_is_closed inclusions snapshot facts saturated) listed none r given)
         ]
 
 core_reached : (inclusions : List Inclusion) (q member : Cq) → IsCore inclusions q member → Reach inclusions q member

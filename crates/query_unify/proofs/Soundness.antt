@@ -4,6 +4,7 @@ use Rattle.std.specs.List.{Contains}
 use Rattle.std.proofs.lemmas.List.{append-nil}
 use Rattle.std.proofs.Common.{append_assoc}
 use Rattle.std.proofs.lemmas.List.Elements.{Contains-push}
+use Rattle.dl_syntax.specs.declared.names.IndId.{IndId}
 use Rattle.dl_syntax.specs.declared.names.RoleId.{RoleId}
 use Rattle.dl_syntax.specs.declared.facts.Element.{Element}
 use Rattle.dl_syntax.specs.declared.facts.Element.TheVariants.{Ind as ind_element, Null}
@@ -21,13 +22,13 @@ use Rattle.dl_syntax.specs.declared.queries.Atom.TheVariants as atom
 use Rattle.dl_syntax.specs.declared.queries.Cq.{Cq}
 use Rattle.dl_syntax.specs.Facts.{In, role_fact}
 use Rattle.dl_syntax.specs.Chase.{Run, start, Makes}
-use Rattle.dl_syntax.specs.Match.{Match, Assignment, term_at, atom_at}
+use Rattle.dl_syntax.specs.Match.{Match, Assignment, term_at, atom_at, Certain}
 use Rattle.dl_syntax.proofs.RunLaws.{Run-step}
 use Rattle.query_unify.specs.Substitution.{applied_query}
 use Rattle.query_unify.specs.Table.{count_in_term, count_in_atom, count_in_atoms, role_atom, basic_atom, Becomes}
 use Rattle.query_unify.specs.Normal.{normalise}
 use Rattle.query_unify.specs.Reach.{Replaces, Reduces, Step, replace, reduce, Steps, stay, go}
-use Rattle.query_unify.specs.Laws.{Gives, IsContinued, StepIsSound, ReachIsSound}
+use Rattle.query_unify.specs.Laws.{Gives, IsContinued, StepIsSound, StepKeepsAnswers, ReachKeepsAnswers, ReachIsSound}
 use Rattle.query_unify.proofs.Matches.{Match-part, Match-whole, Match-longer, Match-sending, sending, term_at-sending, terms_at-sending, Gives-applied}
 use Rattle.query_unify.proofs.NormalForm.{normal_gives_same}
 use Rattle.std.proofs.Math.ListN.{set}
@@ -132,3 +133,20 @@ reach_is_sound inclusions snapshot q q' row reached given =
     let later : (more : List Fact) × Run inclusions snapshot (snapshot ++ more) × Gives (normalise q) (snapshot ++ more) (map ind_element row) = Steps-sound inclusions snapshot (map ind_element row) (normalise q) q' reached snapshot (Run-start inclusions snapshot) given in
     let first : Gives q (snapshot ++ later.0) (map ind_element row) = (normal_gives_same q (snapshot ++ later.0) (map ind_element row)).0 later.2 in
     record { run = snapshot ++ later.0; assignment = first.assignment; is_run = later.1; match = first.match; head = first.head }
+
+-- a certain answer as what the query gives in its run, and back
+given_in_run : (inclusions : List Inclusion) (q : Cq) (snapshot : List Fact) (row : List IndId) → (certain : Certain inclusions q snapshot row) → Gives q certain.run (map ind_element row)
+given_in_run inclusions q snapshot row certain = record { assignment = certain.assignment; match = certain.match; head = certain.head }
+
+certain_in_run : (inclusions : List Inclusion) (q : Cq) (snapshot run : List Fact) (row : List IndId) → Run inclusions snapshot run → Gives q run (map ind_element row) → Certain inclusions q snapshot row
+certain_in_run inclusions q snapshot run row is_run given = record { run = run; assignment = given.assignment; is_run = is_run; match = given.match; head = given.head }
+
+pub step_keeps_answers : StepKeepsAnswers
+step_keeps_answers inclusions snapshot q q' row taken certain =
+    let (more, continued, is_run, given) = step_is_sound inclusions snapshot certain.run q q' (map ind_element row) taken certain.is_run (given_in_run inclusions q' snapshot row certain) in
+    certain_in_run inclusions q snapshot (certain.run ++ more) row is_run given
+
+pub reach_keeps_answers : ReachKeepsAnswers
+reach_keeps_answers inclusions snapshot q q' row reached certain =
+    let (more, is_run, given) = Steps-sound inclusions snapshot (map ind_element row) (normalise q) q' reached certain.run certain.is_run (given_in_run inclusions q' snapshot row certain) in
+    certain_in_run inclusions q snapshot (certain.run ++ more) row is_run ((normal_gives_same q (certain.run ++ more) (map ind_element row)).0 given)

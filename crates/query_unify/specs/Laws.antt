@@ -33,6 +33,18 @@ IsContinued inclusions run more = (more ≡ []) ⊎ ((i : Inclusion) × (f : Fac
 abbrev pub StepIsSound : Type 0
 StepIsSound = (inclusions : List Inclusion) (snapshot run : List Fact) (q q' : Cq) (elements : List Element) → Step inclusions q q' → Run inclusions snapshot run → Gives q' run elements → (more : List Fact) × IsContinued inclusions run more × Run inclusions snapshot (run ++ more) × Gives q (run ++ more) elements
 
+-- a certain answer of a step's result is one of the query before
+abbrev pub StepKeepsAnswers : Type 0
+StepKeepsAnswers =
+    (inclusions : List Inclusion) (snapshot : List Fact) (q q' : Cq) (row : List IndId) →
+    Step inclusions q q' → Certain inclusions q' snapshot row → Certain inclusions q snapshot row
+
+-- and one of a reachable query is one of the first
+abbrev pub ReachKeepsAnswers : Type 0
+ReachKeepsAnswers =
+    (inclusions : List Inclusion) (snapshot : List Fact) (q q' : Cq) (row : List IndId) →
+    Reach inclusions q q' → Certain inclusions q' snapshot row → Certain inclusions q snapshot row
+
 -- what some reachable query gives in the snapshot's facts is a certain answer
 abbrev pub ReachIsSound : Type 0
 ReachIsSound = (inclusions : List Inclusion) (snapshot : List Fact) (q q' : Cq) (row : List IndId) → Reach inclusions q q' → Gives q' snapshot (map ind_element row) → Certain inclusions q snapshot row

@@ -2,16 +2,17 @@
 use Rattle.std.specs.Prelude.{◌≡◌, ℕ, List, ◌↔◌, map}
 use Rattle.std.specs.List.{All, Contains}
 use Rattle.dl_syntax.specs.declared.names.IndId.{IndId}
+use Rattle.dl_syntax.specs.declared.facts.Element.{Element}
 use Rattle.dl_syntax.specs.declared.facts.Element.TheVariants.{Ind as ind_element}
 use Rattle.dl_syntax.specs.declared.facts.Fact.{Fact}
 use Rattle.dl_syntax.specs.declared.ontology.Basic.TheVariants as basic
 use Rattle.dl_syntax.specs.declared.ontology.Inclusion.{Inclusion}
 use Rattle.dl_syntax.specs.declared.ontology.Inclusion.TheVariants as inclusion
 use Rattle.dl_syntax.specs.declared.queries.Cq.{Cq}
-use Rattle.dl_syntax.specs.Chase.{Run}
+use Rattle.dl_syntax.specs.Chase.{Run, Follows}
 use Rattle.dl_syntax.specs.Match.{Certain}
 use Rattle.query_unify.specs.Normal.{normalise}
-use Rattle.query_unify.specs.Reach.{Replaces, Reach}
+use Rattle.query_unify.specs.Reach.{Replaces, Reduces, Reach}
 use Rattle.dl_syntax.specs.Facts.{HasNoNull}
 use Rattle.dl_syntax.specs.Encode.{IsUnqualified}
 use Rattle.query_unify.specs.Laws.{Gives}
@@ -31,6 +32,32 @@ MakesNulls (inclusion.Concepts b (basic.Concept c)) = ⊥
 MakesNulls (inclusion.Concepts b (basic.Some r)) = Unit {0}
 MakesNulls (inclusion.Roles r s) = ⊥
 MakesNulls (inclusion.Qualified b r c) = Unit {0}
+
+-- the facts hold all that the inclusions that make no nulls make from them
+abbrev pub IsClosed : List Inclusion → List Fact → Type 0
+IsClosed inclusions facts =
+    (i : Inclusion) (f g : Fact) (place : ℕ) → Contains inclusions i → (¬ MakesNulls i) →
+    Contains facts f → Follows i f g place → Contains facts g
+
+-- what the result of a replacement by an inclusion that makes no nulls gives in closed facts, the query
+-- before gives there
+abbrev pub ReplaceGoesBack : Type 0
+ReplaceGoesBack =
+    (inclusions : List Inclusion) (facts : List Fact) (i : Inclusion) (place : ℕ) (q q' : Cq)
+    (elements : List Element) → IsClosed inclusions facts → Contains inclusions i → (¬ MakesNulls i) →
+    Replaces i place q q' → Gives q' facts elements → Gives q facts elements
+
+-- what a reduced query gives in any facts, the query before gives there
+abbrev pub ReduceGoesBack : Type 0
+ReduceGoesBack =
+    (facts : List Fact) (j k : ℕ) (q q' : Cq) (elements : List Element) →
+    Reduces j k q q' → Gives q' facts elements → Gives q facts elements
+
+-- saturated facts are closed
+abbrev pub SaturationIsClosed : Type 0
+SaturationIsClosed =
+    (inclusions : List Inclusion) (snapshot facts : List Fact) →
+    IsSaturation inclusions snapshot facts → IsClosed inclusions facts
 
 -- the normalised query, or what a replacement by an inclusion that makes nulls makes of a reachable one
 pub data IsCore (inclusions : List Inclusion) (q member : Cq) : Type 0 where

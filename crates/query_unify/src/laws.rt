@@ -1,6 +1,6 @@
 //! Laws of the definitions, each the contract of a function with nothing to do.
-ghost use Rattle.query_unify.specs.Saturation.{CoreIsExact};
-ghost use Rattle.query_unify.specs.Laws.{NormalGivesSame, StepIsSound, ReachIsSound, ReachIsComplete, RewritingIsExact, ReduceHasOneResult, StepIsNoLonger, NormalIsQuery, StepKeepsQuery, ReplaceHasOneResult};
+ghost use Rattle.query_unify.specs.Saturation.{CoreIsExact, ReplaceGoesBack, ReduceGoesBack, SaturationIsClosed};
+ghost use Rattle.query_unify.specs.Laws.{NormalGivesSame, StepIsSound, StepKeepsAnswers, ReachKeepsAnswers, ReachIsSound, ReachIsComplete, RewritingIsExact, ReduceHasOneResult, StepIsNoLonger, NormalIsQuery, StepKeepsQuery, ReplaceHasOneResult};
 
 /// A query and its normal form give the same.
 pub fn normal_gives_same()
@@ -10,6 +10,12 @@ pub fn normal_gives_same()
 /// What a step's result gives in a run the query before gives in this run, or in this run continued once.
 pub fn step_is_sound()
     ensures { StepIsSound }
+{}
+
+/// A certain answer of what one or more steps lead to is one of the query before.
+pub fn steps_keep_answers()
+    ensures step { StepKeepsAnswers }
+    ensures reach { ReachKeepsAnswers }
 {}
 
 /// What some reachable query gives in the snapshot's facts is a certain answer.
@@ -40,6 +46,14 @@ pub fn replace_has_one_result()
 /// The certain answers are what the core gives in the saturated facts.
 pub fn core_is_exact()
     ensures { CoreIsExact }
+{}
+
+/// What the result of a step that makes no nulls gives in facts that are closed under the inclusions that make none,
+/// the query before gives there. Reductions need no closed facts, and saturated facts are closed.
+pub fn steps_go_back()
+    ensures replace { ReplaceGoesBack }
+    ensures reduce { ReduceGoesBack }
+    ensures saturated { SaturationIsClosed }
 {}
 
 /// A step leaves the head's length, and makes the body no longer.
