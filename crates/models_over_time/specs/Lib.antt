@@ -1,0 +1,3 @@
+-- The definitions and the laws, lowest first.
+pub mod Readings
+pub mod Laws
