@@ -47,7 +47,8 @@ fn two_places<'a>(
     first: &'a str,
     second: &'a str,
 ) -> Result<Command<'a>, AllocError>
-    ensures { IfOk result (λ c. app_of c ≡ places_app name.entry.now first.entry.now second.entry.now) }
+    ensures { IfOk result (λ c. app_of c
+        ≡ places_app name.entry.now first.entry.now second.entry.now) }
 {
     let first = place_argument(alloc, first);
     let second = place_argument(alloc, second);
@@ -86,9 +87,11 @@ pub fn arguments_in<'a>(
     words: &'a [String],
 ) -> Result<ArgMatches<'a>, WordsFault>
     ensures taken { OnOk result (faults_in name (texts_of words.entry.now) ≡ []) }
-    ensures rows { IfOk result (λ m. rows_of (found_of m) ≡ rows_in name (texts_of words.entry.now)) }
+    ensures rows { IfOk result
+        (λ m. rows_of (found_of m) ≡ rows_in name (texts_of words.entry.now)) }
     ensures usage { result ≡ Err WordsFault.Usage → faults_in name (texts_of words.entry.now) ≢ [] }
-    ensures passes { are_taken name (texts_of words.entry.now) ≡ true → result ≢ Err WordsFault.Usage }
+    ensures passes { are_taken name (texts_of words.entry.now) ≡ true
+        → result ≢ Err WordsFault.Usage }
 {
     let Ok(command) = command(alloc, name) else {
         return Err(WordsFault::Memory);

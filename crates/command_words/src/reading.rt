@@ -46,7 +46,8 @@ pub fn read_words<'a>(alloc: Global, words: &'a [String]) -> Result<Request<'a>,
     ensures taken { MeansIfTaken (texts_of words.entry.now) → result ≢ Err WordsFault.Usage }
 
     // Canonical words are never refused as no words of a command, and mean what they say.
-    ensures canonical { (c : Canonical) → IsCanonical c → texts_of words.entry.now ≡ canonical_words c
+    ensures canonical { (c : Canonical) → IsCanonical c
+        → texts_of words.entry.now ≡ canonical_words c
         → IsMeant (canonical_meaning c) result }
 {
     match command_of(words) {

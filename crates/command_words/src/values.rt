@@ -22,7 +22,8 @@ fn value<'a>(matches: &ArgMatches<'a>, id: &str) -> Option<&'a str>
 
 /// The value of an argument, or its default.
 fn value_or<'a>(matches: &ArgMatches<'a>, id: &str, default: &'a str) -> &'a str
-    ensures { result.now ≡ unwrap_or (first_of id.now (rows_of (found_of matches.now))) default.entry.now }
+    ensures { result.now ≡ unwrap_or
+        (first_of id.now (rows_of (found_of matches.now))) default.entry.now }
 {
     match value(matches, id) {
         Some(text) => text,
@@ -131,7 +132,8 @@ fn watch<'a>(matches: &ArgMatches<'a>) -> Option<Watch<'a>>
 /// What the arguments of a rewriting mean.
 fn rewriting<'a>(matches: &ArgMatches<'a>) -> Option<Request<'a>>
     ensures meaning { option_map meaning_of result ≡ rewrite_in (rows_of (found_of matches.now)) }
-    ensures limits { MatchOption result (Unit {0}) (λ request. IsWithinLimits (meaning_of request)) }
+    ensures limits { MatchOption result (Unit {0})
+        (λ request. IsWithinLimits (meaning_of request)) }
 {
     let ontology = file(matches, "ontology")?;
     let queries = file(matches, "queries")?;
@@ -141,7 +143,8 @@ fn rewriting<'a>(matches: &ArgMatches<'a>) -> Option<Request<'a>>
 /// What the arguments of a drill mean.
 fn drill<'a>(matches: &ArgMatches<'a>) -> Option<Request<'a>>
     ensures meaning { option_map meaning_of result ≡ drill_in (rows_of (found_of matches.now)) }
-    ensures limits { MatchOption result (Unit {0}) (λ request. IsWithinLimits (meaning_of request)) }
+    ensures limits { MatchOption result (Unit {0})
+        (λ request. IsWithinLimits (meaning_of request)) }
 {
     let seed = number(matches, "seed", MAX_SEED)?;
     let count = number(matches, "count", MAX_COUNT)?;
@@ -151,8 +154,10 @@ fn drill<'a>(matches: &ArgMatches<'a>) -> Option<Request<'a>>
 /// What the arguments of a command mean.
 #[tactic(auto, unfolding(crate::specs::Meanings::meaning_in))]
 pub fn request<'a>(name: CommandName, matches: &ArgMatches<'a>) -> Option<Request<'a>>
-    ensures meaning { option_map meaning_of result ≡ meaning_in name (rows_of (found_of matches.now)) }
-    ensures limits { MatchOption result (Unit {0}) (λ request. IsWithinLimits (meaning_of request)) }
+    ensures meaning { option_map meaning_of result
+        ≡ meaning_in name (rows_of (found_of matches.now)) }
+    ensures limits { MatchOption result (Unit {0})
+        (λ request. IsWithinLimits (meaning_of request)) }
 {
     match name {
         CommandName::Watch => match watch(matches) {

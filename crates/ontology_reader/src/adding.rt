@@ -64,7 +64,8 @@ fn role_of(ontology: &Ontology, written: &RoleTerm<'_>) -> Result<Role, LineFaul
 /// The basic concept that is written.
 fn basic_of(ontology: &Ontology, written: &BasicTerm<'_>) -> Result<Basic, LineFault>
     ensures given { Gives result (basic_of ontology.now (basic_seen written.now)) (λ basic. basic) }
-    ensures known { IfOk result (λ basic. IsDeclaredBasic (length ontology.now.concepts) (length ontology.now.roles) basic) }
+    ensures known { IfOk result (λ basic. IsDeclaredBasic (length ontology.now.concepts)
+        (length ontology.now.roles) basic) }
 {
     match written {
         BasicTerm::Concept(name) => {
@@ -94,7 +95,8 @@ fn declare(ontology: &mut Ontology, kind: Kind, name: &[u8]) -> Result<(), LineF
 
 /// Adds an inclusion of declared names.
 fn include(ontology: &mut Ontology, inclusion: Inclusion) -> Result<(), LineFault>
-    requires { IsDeclaredInclusion (length ontology.old.concepts) (length ontology.old.roles) inclusion }
+    requires { IsDeclaredInclusion (length ontology.old.concepts)
+        (length ontology.old.roles) inclusion }
     ensures { Changes result (included ontology.old inclusion) ontology.new }
 {
     let _ = ontology.inclusions();

@@ -29,7 +29,7 @@ pub enum OntologyKind {
 /// Why a text gives no ontology.
 #[derive(Clone, Copy, PartialEq, Eq, Debug)]
 pub enum OntologyFault {
-    /// The first fault, with its line, counted from 1; a text that is too long is at fault at line 0.
+    /// The first fault, with its line, counted from 1, and 0 for a text that is too long.
     Bad { line: u64, kind: OntologyKind },
     /// There is no memory.
     Memory,

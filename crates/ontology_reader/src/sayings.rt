@@ -35,7 +35,8 @@ pub(crate) enum Saying<'a> {
 
 /// The role that the words begin with, and the words behind it.
 fn role_first<'a, 'b>(words: &'b [Word<'a>]) -> Option<(RoleTerm<'a>, &'b [Word<'a>])>
-    ensures { option_map (λ found. (role_seen found.0, map word_seen found.1.now)) result ≡ role_first (map word_seen words.now) }
+    ensures { option_map (λ found. (role_seen found.0, map word_seen found.1.now)) result
+        ≡ role_first (map word_seen words.now) }
 {
     match words {
         [Word::Name(role), rest @ ..] => Some((
@@ -58,7 +59,8 @@ fn role_first<'a, 'b>(words: &'b [Word<'a>]) -> Option<(RoleTerm<'a>, &'b [Word<
 
 /// The basic concept that the words begin with, and the words behind it.
 fn basic_first<'a, 'b>(words: &'b [Word<'a>]) -> Option<(BasicTerm<'a>, &'b [Word<'a>])>
-    ensures { option_map (λ found. (basic_seen found.0, map word_seen found.1.now)) result ≡ basic_first (map word_seen words.now) }
+    ensures { option_map (λ found. (basic_seen found.0, map word_seen found.1.now)) result
+        ≡ basic_first (map word_seen words.now) }
 {
     match words {
         [Word::Name(concept), rest @ ..] => Some((BasicTerm::Concept(concept), rest)),
@@ -82,7 +84,8 @@ fn declaration<'a>(kind: Kind, words: &[Word<'a>]) -> Saying<'a>
 
 /// An inclusion by its left side and what its right side begins with.
 fn right_of<'a>(left: BasicTerm<'a>, right: BasicTerm<'a>, rest: &[Word<'a>]) -> Saying<'a>
-    ensures { saying_seen result ≡ right_of (basic_seen left.entry) (basic_seen right.entry, map word_seen rest.now) }
+    ensures { saying_seen result
+        ≡ right_of (basic_seen left.entry) (basic_seen right.entry, map word_seen rest.now) }
 {
     match (right, rest) {
         (right, []) => Saying::Includes(left, right),
@@ -108,7 +111,8 @@ fn inclusion<'a>(words: &[Word<'a>]) -> Saying<'a>
 
 /// Two basic concepts with nothing behind them.
 fn two_basics<'a>(words: &[Word<'a>]) -> Option<(BasicTerm<'a>, BasicTerm<'a>)>
-    ensures { option_map_or (λ found. parts (basic_seen found.0) (basic_seen found.1)) result has_no_form ≡ pair_of basic_first parts (map word_seen words.now) }
+    ensures { option_map_or (λ found. parts (basic_seen found.0) (basic_seen found.1)) result
+        has_no_form ≡ pair_of basic_first parts (map word_seen words.now) }
 {
     let (left, rest) = basic_first(words)?;
     match basic_first(rest)? {
@@ -119,7 +123,9 @@ fn two_basics<'a>(words: &[Word<'a>]) -> Option<(BasicTerm<'a>, BasicTerm<'a>)>
 
 /// Two roles with nothing behind them.
 fn two_roles<'a>(words: &[Word<'a>]) -> Option<(RoleTerm<'a>, RoleTerm<'a>)>
-    ensures { (says : RoleTermSeen → RoleTermSeen → SayingSeen) → option_map_or (λ found. says (role_seen found.0) (role_seen found.1)) result has_no_form ≡ pair_of role_first says (map word_seen words.now) }
+    ensures { (says : RoleTermSeen → RoleTermSeen → SayingSeen)
+        → option_map_or (λ found. says (role_seen found.0) (role_seen found.1)) result has_no_form
+        ≡ pair_of role_first says (map word_seen words.now) }
 {
     let (left, rest) = role_first(words)?;
     match role_first(rest)? {

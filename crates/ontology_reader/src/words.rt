@@ -38,7 +38,8 @@ pub(crate) fn words_in<'a>(
     alloc: Global,
     line: &'a [u8],
 ) -> Result<Option<Vec<Word<'a>>>, AllocError>
-    ensures { IfOk result (λ found. option_map (λ words. map word_seen words.items) found ≡ words_read (lexed 0 0 line.now)) }
+    ensures { IfOk result (λ found. option_map (λ words. map word_seen words.items) found
+        ≡ words_read (lexed 0 0 line.now)) }
 {
     let mut words = Vec::new(alloc);
     let mut place = 0;

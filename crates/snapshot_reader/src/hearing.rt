@@ -30,9 +30,13 @@ impl<'a> Blamed<'a> {
     /// The first names at fault with one more fact.
     #[cold]
     fn with(self, ontology: &Ontology, written: &Written<'a>) -> Blamed<'a>
-        ensures unknown { name_seen result.unknown ≡ option_or (name_seen self.entry.unknown) (first_unknown ontology.now (written_seen written.now ∷ [])) }
-        ensures misused { name_seen result.misused ≡ option_or (name_seen self.entry.misused) (first_misused ontology.now (written_seen written.now ∷ [])) }
-        ensures undeclared { name_seen result.undeclared ≡ option_or (name_seen self.entry.undeclared) (first_undeclared ontology.now (written_seen written.now ∷ [])) }
+        ensures unknown { name_seen result.unknown ≡ option_or (name_seen self.entry.unknown)
+            (first_unknown ontology.now (written_seen written.now ∷ [])) }
+        ensures misused { name_seen result.misused ≡ option_or (name_seen self.entry.misused)
+            (first_misused ontology.now (written_seen written.now ∷ [])) }
+        ensures undeclared { name_seen result.undeclared
+            ≡ option_or (name_seen self.entry.undeclared)
+            (first_undeclared ontology.now (written_seen written.now ∷ [])) }
     {
         Blamed {
             unknown: self.unknown.or(unknown(ontology, written)),
@@ -71,7 +75,8 @@ impl<'a> Heard<'a> {
     /// Takes in one more fact.
     pub(crate) fn hear(&mut self, ontology: &Ontology, written: &Written<'a>) -> Result<(), Memory>
         requires { self.old.count < 2 ^ 63 }
-        ensures { OnOk result ((done : List spec.Written) → Hears ontology.now done self.old → Hears ontology.now (done ++ written_seen written.now ∷ []) self.new) }
+        ensures { OnOk result ((done : List spec.Written) → Hears ontology.now done self.old
+            → Hears ontology.now (done ++ written_seen written.now ∷ []) self.new) }
     {
         match fact_of(ontology, written) {
             Some(fact) => self.facts.push(fact)?,
@@ -84,7 +89,8 @@ impl<'a> Heard<'a> {
     /// What a line of these facts gives.
     pub(crate) fn reading(self, alloc: Global) -> Result<Reading, SnapFault>
         requires { All HasNoNull self.facts.items }
-        ensures { (o : Declared) (done : List spec.Written) → Hears o done self.entry → Tells result (facts_say o done) }
+        ensures { (o : Declared) (done : List spec.Written) → Hears o done self.entry
+            → Tells result (facts_say o done) }
     {
         if let Some(name) = self.blamed.unknown {
             return Err(SnapFault::Unknown(Name::new(alloc, name)?));

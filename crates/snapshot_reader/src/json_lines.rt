@@ -44,7 +44,8 @@ fn fact_in(value: &Value) -> Option<Written<'_>>
 
 /// What a list of facts says.
 fn read_list(alloc: Global, list: &[Value], ontology: &Ontology) -> Result<Reading, SnapFault>
-    ensures { Tells result (line_says ontology.now (option_map_or writes (facts_in (items_view list.now)) malformed)) }
+    ensures { Tells result (line_says ontology.now
+        (option_map_or writes (facts_in (items_view list.now)) malformed)) }
 {
     let mut heard = Heard::new(alloc);
     for value in list {

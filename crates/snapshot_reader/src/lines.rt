@@ -23,7 +23,8 @@ fn read_facts(
     ontology: &Ontology,
 ) -> Result<Reading, SnapFault>
     requires { from ≤ length line.now }
-    ensures { Tells result (line_says ontology.now (option_map_or writes (facts_from line.now from) malformed)) }
+    ensures { Tells result (line_says ontology.now
+        (option_map_or writes (facts_from line.now from) malformed)) }
 {
     let mut heard = Heard::new(alloc);
     let mut place = from;
@@ -42,7 +43,8 @@ fn read_facts(
 /// What a line says that doesn't begin with a name.
 fn read_no_name(line: &[u8]) -> Result<Reading, SnapFault>
     requires { IsTokenOf Name line.now 0 None }
-    ensures { (o : Declared) → Tells result (line_says o (symbols_write (symbols_from line.now 0))) }
+    ensures { (o : Declared)
+        → Tells result (line_says o (symbols_write (symbols_from line.now 0))) }
 {
     match next_token(line, 0) {
         Next::Token(_) => Err(SnapFault::Malformed),

@@ -92,7 +92,8 @@ pub(crate) fn misused<'a>(ontology: &Ontology, written: &Written<'a>) -> Option<
 
 /// The name, if no individual has it.
 fn no_individual<'a>(ontology: &Ontology, name: &'a [u8]) -> Option<&'a [u8]>
-    ensures { name_seen result ≡ find (λ text. not (is_name_of Individual ontology.now text)) (name.now ∷ []) }
+    ensures { name_seen result
+        ≡ find (λ text. not (is_name_of Individual ontology.now text)) (name.now ∷ []) }
 {
     if is_name_of(ontology, Kind::Individual, name) {
         None

@@ -25,7 +25,8 @@ const MEMBER_LIMIT: usize = 64;
 /// The text of the next token, if it is a name.
 #[inline]
 fn next_name<'r>(reader: &mut Reader<'r>) -> Option<&'r [u8]>
-    ensures { IfSome result (λ name. (reader.old ≡ string name.now ∷ reader.new) × (is_name name.now ≡ true)) }
+    ensures { IfSome result (λ name. (reader.old ≡ string name.now ∷ reader.new)
+        × (is_name name.now ≡ true)) }
 {
     let Some(Token::String(text)) = reader.next() else {
         return None;
@@ -37,7 +38,9 @@ fn next_name<'r>(reader: &mut Reader<'r>) -> Option<&'r [u8]>
 /// The fact that goes on behind `[`.
 #[inline]
 fn next_fact<'r>(reader: &mut Reader<'r>) -> Option<Written<'r>>
-    ensures { IfSome result (λ written. (reader.old ≡ fact_before (written_seen written) reader.new) × IsSpelled (written_seen written)) }
+    ensures { IfSome result (λ written.
+        (reader.old ≡ fact_before (written_seen written) reader.new)
+        × IsSpelled (written_seen written)) }
 {
     let predicate = next_name(reader)?;
     let first = next_name(reader)?;
@@ -58,7 +61,9 @@ fn next_facts<'r>(
     reader: &mut Reader<'r>,
     ontology: &Ontology,
 ) -> Result<Option<Heard<'r>>, Memory>
-    ensures { IfOk result (λ found. IfSome found (λ heard. (facts : List spec.Written) × (reader.old ≡ facts_before facts (end_array ∷ reader.new)) × All IsSpelled facts × Hears ontology.now facts heard)) }
+    ensures { IfOk result (λ found. IfSome found (λ heard.
+        (facts : List spec.Written) × (reader.old ≡ facts_before facts (end_array ∷ reader.new))
+        × All IsSpelled facts × Hears ontology.now facts heard)) }
 {
     let mut heard = Heard::new(alloc);
     for _ in 0..=FACT_LIMIT {
@@ -100,7 +105,8 @@ fn is_natural(number: &str) -> bool
 /// Whether the next token is a value by itself.
 #[inline]
 fn pass_value(reader: &mut Reader<'_>) -> bool
-    ensures { IsTrue result → (token : SpecToken) × (meaning : Data) × (reader.old ≡ token ∷ reader.new) × (value_in token ≡ Some meaning) }
+    ensures { IsTrue result → (token : SpecToken) × (meaning : Data)
+        × (reader.old ≡ token ∷ reader.new) × (value_in token ≡ Some meaning) }
 {
     match reader.next() {
         Some(Token::String(_)) => true,
@@ -114,7 +120,9 @@ fn pass_value(reader: &mut Reader<'_>) -> bool
 /// Passes over members up to the facts or to the end of the object, and tells whether it is the
 /// facts.
 fn pass_members(reader: &mut Reader<'_>) -> Option<bool>
-    ensures { IfSome result (λ at_facts. (members : List Passed) × (reader.old ≡ members_before members (stop_token at_facts ∷ reader.new)) × All IsPassed members) }
+    ensures { IfSome result (λ at_facts. (members : List Passed)
+        × (reader.old ≡ members_before members (stop_token at_facts ∷ reader.new))
+        × All IsPassed members) }
 {
     for _ in 0..MEMBER_LIMIT {
         match reader.next() {
@@ -133,7 +141,8 @@ pub(crate) fn hear_plain<'r>(
     reader: &mut Reader<'r>,
     ontology: &Ontology,
 ) -> Result<Option<Heard<'r>>, Memory>
-    ensures { IfOk result (λ found. IfSome found (λ heard. HeardAll ontology.now reader.old heard)) }
+    ensures { IfOk result (λ found. IfSome found
+        (λ heard. HeardAll ontology.now reader.old heard)) }
 {
     let Some(Token::BeginObject) = reader.next() else {
         return Ok(None);

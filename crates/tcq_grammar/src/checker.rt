@@ -79,7 +79,8 @@ impl Checker {
     /// Goes to the mode where the token is the one that is wanted.
     fn goes(&mut self, wanted: bool, mode: Mode) -> bool
         ensures went { result ≡ wanted }
-        ensures after { view self.new ≡ (if wanted then in_mode (view self.old) mode else view self.old) }
+        ensures after { view self.new
+            ≡ (if wanted then in_mode (view self.old) mode else view self.old) }
     {
         if wanted {
             self.mode = mode;
@@ -97,7 +98,8 @@ impl Checker {
 
     /// A name where a formula is to come.
     fn begin_word(&mut self, name: &[u8]) -> bool
-        ensures { Moved (begin_word_control (view self.old) (words.keyword_of name.now)) result (view self.new) }
+        ensures { Moved (begin_word_control (view self.old) (words.keyword_of name.now)) result
+            (view self.new) }
     {
         match keyword_of(name) {
             Keyword::True | Keyword::False => {
@@ -118,7 +120,8 @@ impl Checker {
 
     /// A parenthesis where a formula is to come.
     fn open(&mut self) -> Result<bool, AllocError>
-        ensures { IfOk result (λ went. Moved (begin_control (view self.old) s.Open) went (view self.new)) }
+        ensures { IfOk result (λ went. Moved (begin_control (view self.old) s.Open) went
+            (view self.new)) }
     {
         if self.nesting >= NESTING_LIMIT {
             return Ok(false);
@@ -135,7 +138,8 @@ impl Checker {
 
     /// The token where a formula is to come.
     fn begin(&mut self, token: &Token<'_>) -> Result<bool, AllocError>
-        ensures { IfOk result (λ went. Moved (begin_control (view self.old) (symbol token.now)) went (view self.new)) }
+        ensures { IfOk result (λ went. Moved
+            (begin_control (view self.old) (symbol token.now)) went (view self.new)) }
     {
         match token.kind {
             TokenKind::Name => Ok(self.begin_word(token.text)),
@@ -155,7 +159,8 @@ impl Checker {
 
     /// A name where a formula has come.
     fn go_on_word(&mut self, name: &[u8]) -> bool
-        ensures { Moved (go_on_word_control (view self.old) (words.keyword_of name.now)) result (view self.new) }
+        ensures { Moved (go_on_word_control (view self.old) (words.keyword_of name.now)) result
+            (view self.new) }
     {
         match keyword_of(name) {
             Keyword::Timed(_) => {
@@ -215,7 +220,8 @@ impl Checker {
 
     /// The token behind an atom's first term.
     fn after_first(&mut self, token: &Token<'_>) -> bool
-        ensures { Moved (after_first_control (view self.old) (symbol token.now)) result (view self.new) }
+        ensures { Moved (after_first_control (view self.old) (symbol token.now)) result
+            (view self.new) }
     {
         match token.kind {
             TokenKind::Comma => self.goes(true, Mode::WantSecond),
@@ -226,7 +232,8 @@ impl Checker {
 
     /// The token behind an atom.
     fn after_atom(&mut self, token: &Token<'_>) -> bool
-        ensures { Moved (after_atom_control (view self.old) (symbol token.now)) result (view self.new) }
+        ensures { Moved (after_atom_control (view self.old) (symbol token.now)) result
+            (view self.new) }
     {
         match token.kind {
             TokenKind::Comma => self.goes(true, Mode::WantAtom),
@@ -241,7 +248,8 @@ impl Checker {
     /// Reads one more token, and says whether a file may go on so. Where it may not, the reader is
     /// of no more use.
     pub fn step(&mut self, token: &Token<'_>) -> Result<bool, AllocError>
-        ensures { IfOk result (λ went. Moved (control_step (view self.old) (symbol token.now)) went (view self.new)) }
+        ensures { IfOk result (λ went. Moved
+            (control_step (view self.old) (symbol token.now)) went (view self.new)) }
     {
         let kind = token.kind;
         let is_name = kind == TokenKind::Name;

@@ -6,7 +6,8 @@
 //! conj    = timed { "&" timed }
 //! timed   = unary [ ( "until" | "since" ) unary ]
 //! unary   = OP unary | "(" formula ")" | "true" | "false" | "[" atom { "," atom } "]"
-//! OP      = "next" | "wnext" | "prev" | "wprev" | "eventually" | "always" | "once" | "historically"
+//! OP      = "next" | "wnext" | "prev" | "wprev" | "eventually" | "always" | "once"
+//!         | "historically"
 //! atom    = NAME "(" term [ "," term ] ")"
 //! term    = VAR | NAME
 //! ```

@@ -94,7 +94,8 @@ impl<'a> Builder<'a> {
     /// A token in an answer list.
     fn answer(&mut self, token: &Token<'a>) -> Result<(), Stop>
         requires { (build self.old).leaf.vars ≤ 4 }
-        ensures { Answers (answered (build self.old) (marked token.now) (symbol token.now)) result (build self.new) }
+        ensures { Answers (answered (build self.old) (marked token.now) (symbol token.now)) result
+            (build self.new) }
     {
         if token.kind != TokenKind::Var {
             return Ok(());
@@ -104,7 +105,8 @@ impl<'a> Builder<'a> {
 
     /// A name where a formula is to come.
     fn want_word(&mut self, text: &[u8]) -> Result<(), Stop>
-        ensures { Answers (word_wanted (build self.old) (words.keyword_of text.now)) result (build self.new) }
+        ensures { Answers (word_wanted (build self.old) (words.keyword_of text.now)) result
+            (build self.new) }
     {
         let outcome = match keyword_of(text) {
             Keyword::True => self.table.operand(Node::True),
@@ -137,7 +139,8 @@ impl<'a> Builder<'a> {
         requires few { individuals ≤ 65536 }
         requires sound { IsSound individuals (build self.old) }
         requires valid { IsTcq query.vars query.nodes }
-        ensures { Answers (query_added individuals (build self.old) query start) result (build self.new) }
+        ensures { Answers (query_added individuals (build self.old) query start) result
+            (build self.new) }
     {
         let total = self.total + sizes(&query, individuals).units;
         if total > UNIT_LIMIT {
@@ -183,7 +186,8 @@ impl<'a> Builder<'a> {
     fn have(&mut self, ontology: &Ontology, token: &Token<'a>) -> Result<(), Stop>
         requires sound { IsSound (length ontology.now.individuals) (build self.old) }
         requires end { EndsAt Mode.Have (symbol token.now) (build self.old) }
-        ensures { Answers (had (length ontology.now.individuals) (build self.old) (marked token.now) (symbol token.now)) result (build self.new) }
+        ensures { Answers (had (length ontology.now.individuals) (build self.old)
+            (marked token.now) (symbol token.now)) result (build self.new) }
     {
         match token.kind {
             TokenKind::Name => self.have_word(token.text),
@@ -212,7 +216,8 @@ impl<'a> Builder<'a> {
     /// A token behind a term.
     fn end_atom(&mut self, ontology: &Ontology, token: &Token<'a>) -> Result<(), Stop>
         requires { length (build self.old).leaf.seen < 50000 }
-        ensures { Answers (atom_ended ontology.now (build self.old) (symbol token.now)) result (build self.new) }
+        ensures { Answers (atom_ended ontology.now (build self.old) (symbol token.now)) result
+            (build self.new) }
     {
         if token.kind == TokenKind::Close {
             self.leaf.add_atom(ontology, self.words.as_slice())?;
@@ -241,7 +246,8 @@ impl<'a> Builder<'a> {
     ) -> Result<(), Stop>
         requires sound { IsSound (length ontology.now.individuals) (build self.old) }
         requires end { EndsAt mode (symbol token.now) (build self.old) }
-        ensures { Answers (acted ontology.now mode (build self.old) (marked token.now)) result (build self.new) }
+        ensures { Answers (acted ontology.now mode (build self.old) (marked token.now)) result
+            (build self.new) }
     {
         match mode {
             Mode::AfterQuery => self.begin(token),

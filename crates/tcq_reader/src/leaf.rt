@@ -66,7 +66,8 @@ fn answer_head(alloc: Global, vars: u8, body: &[Atom]) -> Result<Vec<Term>, Memo
 
 /// The number of a predicate that is to be of this kind, behind so many atoms of its leaf.
 fn predicate(ontology: &Ontology, kind: Kind, before: usize, word: &Token<'_>) -> Result<u32, Stop>
-    ensures { OnName (symbol word.now) (λ text. TellsPredicate ontology.now before kind text word.now.start result) }
+    ensures { OnName (symbol word.now)
+        (λ text. TellsPredicate ontology.now before kind text word.now.start result) }
 {
     if before >= ATOM_LIMIT {
         return Err(Stop::At(word.start, QueryKind::TooMany));
@@ -122,7 +123,8 @@ impl<'a> LeafBuilder<'a> {
 
     /// Puts a variable last.
     fn push(&mut self, text: &'a [u8]) -> Result<(), Memory>
-        ensures { OnOk result (draft self.new ≡ with_seen (draft self.old) ((draft self.old).seen ++ text.entry.now ∷ [])) }
+        ensures { OnOk result (draft self.new
+            ≡ with_seen (draft self.old) ((draft self.old).seen ++ text.entry.now ∷ [])) }
     {
         self.variables.push(text)?;
         Ok(())
@@ -131,7 +133,8 @@ impl<'a> LeafBuilder<'a> {
     /// One more answer variable, which stands at the place.
     pub(crate) fn add_answer(&mut self, text: &'a [u8], start: usize) -> Result<(), Stop>
         requires { (draft self.old).vars ≤ 4 }
-        ensures { Answers (answer_added (draft self.old) text.entry.now start) result (draft self.new) }
+        ensures { Answers (answer_added (draft self.old) text.entry.now start) result
+            (draft self.new) }
     {
         if self.variables.len() >= ANSWER_LIMIT {
             return Err(Stop::At(start, QueryKind::TooMany));
@@ -151,9 +154,13 @@ impl<'a> LeafBuilder<'a> {
     /// The number of the variable.
     fn variable(&mut self, text: &'a [u8]) -> Result<u16, Memory>
         requires { length (draft self.old).seen < 60000 }
-        ensures number { IfOk result (λ number. number ≡ variable_number (draft self.old).seen text.entry.now) }
-        ensures seen { OnOk result (draft self.new ≡ with_seen (draft self.old) (seen_after (draft self.old).seen text.entry.now (known_as (draft self.old).seen text.entry.now))) }
-        ensures grows { OnOk result (length (draft self.new).seen ≤ length (draft self.old).seen + 1) }
+        ensures number { IfOk result
+            (λ number. number ≡ variable_number (draft self.old).seen text.entry.now) }
+        ensures seen { OnOk result (draft self.new ≡ with_seen (draft self.old)
+            (seen_after (draft self.old).seen text.entry.now
+            (known_as (draft self.old).seen text.entry.now))) }
+        ensures grows { OnOk result
+            (length (draft self.new).seen ≤ length (draft self.old).seen + 1) }
     {
         if let Some(place) = self.known(text) {
             return Ok(place as u16);
@@ -166,8 +173,10 @@ impl<'a> LeafBuilder<'a> {
     /// The term that the word is.
     fn term(&mut self, ontology: &Ontology, word: &Token<'a>) -> Result<Term, Stop>
         requires { length (draft self.old).seen < 60000 }
-        ensures tells { OnTerm (symbol word.now) (λ written. TellsTerm ontology.now (draft self.old) written word.now.start result (draft self.new)) }
-        ensures grows { OnOk result (length (draft self.new).seen ≤ length (draft self.old).seen + 1) }
+        ensures tells { OnTerm (symbol word.now) (λ written. TellsTerm ontology.now
+            (draft self.old) written word.now.start result (draft self.new)) }
+        ensures grows { OnOk result
+            (length (draft self.new).seen ≤ length (draft self.old).seen + 1) }
     {
         if word.kind == TokenKind::Var {
             return match self.variable(word.text) {
@@ -189,7 +198,8 @@ impl<'a> LeafBuilder<'a> {
         term: &Token<'a>,
     ) -> Result<(), Stop>
         requires { length (draft self.old).seen < 50000 }
-        ensures { Answers (one_added ontology.now (draft self.old) (marked name.now) (marked term.now)) result (draft self.new) }
+        ensures { Answers (one_added ontology.now (draft self.old) (marked name.now)
+            (marked term.now)) result (draft self.new) }
     {
         let concept = predicate(ontology, Kind::Concept, self.body.len(), name)?;
         let term = self.term(ontology, term)?;
@@ -208,7 +218,8 @@ impl<'a> LeafBuilder<'a> {
         second: &Token<'a>,
     ) -> Result<(), Stop>
         requires { length (draft self.old).seen < 50000 }
-        ensures { Answers (two_added ontology.now (draft self.old) (marked name.now) (marked first.now) (marked second.now)) result (draft self.new) }
+        ensures { Answers (two_added ontology.now (draft self.old) (marked name.now)
+            (marked first.now) (marked second.now)) result (draft self.new) }
     {
         let role = predicate(ontology, Kind::Role, self.body.len(), name)?;
         let first = self.term(ontology, first)?;
@@ -222,7 +233,8 @@ impl<'a> LeafBuilder<'a> {
     /// The atom of these words: its predicate, and its term or its two.
     pub(crate) fn add_atom(&mut self, ontology: &Ontology, words: &[Token<'a>]) -> Result<(), Stop>
         requires { length (draft self.old).seen < 50000 }
-        ensures { Answers (atom_added ontology.now (draft self.old) (map marked words.now)) result (draft self.new) }
+        ensures { Answers (atom_added ontology.now (draft self.old) (map marked words.now)) result
+            (draft self.new) }
     {
         match words {
             [name, term] => self.add_one(ontology, name, term),

@@ -82,7 +82,8 @@ impl TableBuilder {
 
     /// Puts the node last. Behind one node too many, none is kept.
     fn put(&mut self, node: Node) -> Result<(), Memory>
-        ensures { OnOk result (table self.new ≡ with_nodes (table self.old) (building.put (table self.old).nodes node)) }
+        ensures { OnOk result (table self.new
+            ≡ with_nodes (table self.old) (building.put (table self.old).nodes node)) }
     {
         if self.nodes.len() < KEPT_NODES {
             self.nodes.push(node)?;
@@ -99,7 +100,8 @@ impl TableBuilder {
 
     /// Applies the operators whose operand came last.
     fn apply(&mut self) -> Result<(), Memory>
-        ensures { OnOk result (table self.new ≡ applied (table self.old).places (table self.old).frames (table self.old).nodes) }
+        ensures { OnOk result (table self.new
+            ≡ applied (table self.old).places (table self.old).frames (table self.old).nodes) }
     {
         while let Some(Frame::Operand(op)) = self.frames.last() {
             let op = *op;
@@ -137,7 +139,8 @@ impl TableBuilder {
 
     /// Ends what an `until` or a `since` has on its right.
     fn end_timed(&mut self) -> Result<(), Memory>
-        ensures { OnOk result (table self.new ≡ with_nodes (table self.old) (timed_joined (table self.old).places.timed (table self.old).nodes)) }
+        ensures { OnOk result (table self.new ≡ with_nodes (table self.old)
+            (timed_joined (table self.old).places.timed (table self.old).nodes)) }
     {
         if let Some((op, left)) = self.places.timed {
             let right = self.last();
@@ -148,7 +151,8 @@ impl TableBuilder {
 
     /// Ends a conjunction.
     fn end_conjunction(&mut self) -> Result<(), Memory>
-        ensures { OnOk result (table self.new ≡ with_nodes (table self.old) (conjunction_nodes (table self.old).places (table self.old).nodes)) }
+        ensures { OnOk result (table self.new ≡ with_nodes (table self.old)
+            (conjunction_nodes (table self.old).places (table self.old).nodes)) }
     {
         self.end_timed()?;
         if let Some(left) = self.places.both {
@@ -160,7 +164,8 @@ impl TableBuilder {
 
     /// Ends a disjunction.
     fn end_disjunction(&mut self) -> Result<(), Memory>
-        ensures { OnOk result (table self.new ≡ with_nodes (table self.old) (disjunction_nodes (table self.old).places (table self.old).nodes)) }
+        ensures { OnOk result (table self.new ≡ with_nodes (table self.old)
+            (disjunction_nodes (table self.old).places (table self.old).nodes)) }
     {
         self.end_conjunction()?;
         if let Some(left) = self.places.either {
@@ -214,7 +219,8 @@ impl TableBuilder {
 
     /// The table of the whole formula, which the builder gives up.
     pub(crate) fn finish(&mut self) -> Result<Vec<Node>, Memory>
-        ensures nodes { IfOk result (λ nodes. nodes.items ≡ disjunction_nodes (table self.old).places (table self.old).nodes) }
+        ensures nodes { IfOk result (λ nodes. nodes.items
+            ≡ disjunction_nodes (table self.old).places (table self.old).nodes) }
         ensures empty { OnOk result (table self.new ≡ no_table) }
     {
         self.end_disjunction()?;
