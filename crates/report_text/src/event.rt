@@ -41,9 +41,11 @@ pub enum Event {
     },
 }
 
-/// The line of which answers are told, and the snapshot's number in the whole history.
+/// How lines are written, the line of which answers are told, and the snapshot's number in the
+/// whole history.
 #[derive(Clone, Copy)]
 struct Told {
+    form: LineForm,
     line: u64,
     number: u64,
 }
@@ -172,10 +174,11 @@ fn append_items(
             append_accepted(out, form, *line, *number)?;
             let answers = answers.as_slice();
             let told = Told {
+                form,
                 line: *line,
                 number: *number,
             };
-            append_queries(out, form, told, ontology, queries, kept, answers)
+            append_queries(out, told, ontology, queries, kept, answers)
         }
         Event::Refused { line, cause } => append_refusal(out, form, *line, cause),
         Event::End { accepted, refused } => append_last(out, form, *accepted, *refused),
@@ -219,7 +222,6 @@ fn append_last(out: &mut Vec<u8>, form: LineForm, accepted: u64, refused: u64) -
 /// Appends a line for each answer of one query. What stood before stays, also on an error.
 fn append_rows(
     out: &mut Vec<u8>,
-    form: LineForm,
     told: Told,
     query: &[u8],
     ontology: &Ontology,
@@ -228,10 +230,11 @@ fn append_rows(
     requires named { AreNamed ontology.now rows.now.rows }
     requires spelled { IsName query.now }
     ensures ok { OnOk result (out.new.items ≡ out.old.items
-        ++ answers_in form ontology.now.individuals told.line told.number query.now rows.now.rows) }
+        ++ answers_in told.form ontology.now.individuals told.line told.number query.now
+        rows.now.rows) }
     ensures kept { take (vec_len out.old) out.new.items ≡ out.old.items }
 {
-    match form {
+    match told.form {
         LineForm::Text => append_answers(out, query, ontology, rows),
         LineForm::Csv => append_answer_rows(out, told.line, told.number, query, ontology, rows),
     }
@@ -239,28 +242,22 @@ fn append_rows(
 
 /// Appends the line that tells a size, where there is one. What stood before stays, also on an
 /// error.
-fn append_size(
-    out: &mut Vec<u8>,
-    form: LineForm,
-    line: u64,
-    query: &[u8],
-    size: Option<u64>,
-) -> Result<(), Memory>
+fn append_size(out: &mut Vec<u8>, told: Told, query: &[u8], size: Option<u64>) -> Result<(), Memory>
     requires { IsName query.now }
-    ensures ok { OnOk result (out.new.items ≡ out.old.items ++ size_in form line query.now size) }
+    ensures ok { OnOk result (out.new.items
+        ≡ out.old.items ++ size_in told.form told.line query.now size) }
     ensures kept { take (vec_len out.old) out.new.items ≡ out.old.items }
 {
-    match (size, form) {
+    match (size, told.form) {
         (None, _) => Ok(()),
         (Some(size), LineForm::Text) => append_kept(out, query, size),
-        (Some(size), LineForm::Csv) => append_kept_row(out, line, size, query),
+        (Some(size), LineForm::Csv) => append_kept_row(out, told.line, size, query),
     }
 }
 
 /// Appends the lines of one query. What stood before stays, also on an error.
 fn append_query(
     out: &mut Vec<u8>,
-    form: LineForm,
     told: Told,
     query: &[u8],
     ontology: &Ontology,
@@ -270,18 +267,18 @@ fn append_query(
     requires named { AreNamed ontology.now rows.now.rows }
     requires spelled { IsName query.now }
     ensures ok { OnOk result (out.new.items ≡ out.old.items
-        ++ (answers_in form ontology.now.individuals told.line told.number query.now
-        rows.now.rows ++ size_in form told.line query.now size)) }
+        ++ (answers_in told.form ontology.now.individuals told.line told.number query.now
+        rows.now.rows
+        ++ size_in told.form told.line query.now size)) }
     ensures kept { take (vec_len out.old) out.new.items ≡ out.old.items }
 {
-    append_rows(out, form, told, query, ontology, rows)?;
-    append_size(out, form, told.line, query, size)
+    append_rows(out, told, query, ontology, rows)?;
+    append_size(out, told, query, size)
 }
 
 /// Appends the lines of the queries in their order. What stood before stays, also on an error.
 fn append_queries(
     out: &mut Vec<u8>,
-    form: LineForm,
     told: Told,
     ontology: &Ontology,
     queries: &[Query],
@@ -291,14 +288,14 @@ fn append_queries(
     requires answered { AreAnswered ontology.now queries.now kept.now answers.now }
     requires spelled { AreSpelled queries.now }
     ensures ok { OnOk result (out.new.items ≡ out.old.items
-        ++ flat_map (line_in form ontology.now queries.now)
+        ++ flat_map (line_in told.form ontology.now queries.now)
         (query_items told.line told.number kept.now 0 answers.now)) }
     ensures kept { take (vec_len out.old) out.new.items ≡ out.old.items }
 {
     for place in 0..answers.len() {
         let query = queries[place].name().bytes();
         let size = size_of(kept, place);
-        append_query(out, form, told, query, ontology, &answers[place], size)?;
+        append_query(out, told, query, ontology, &answers[place], size)?;
     }
     Ok(())
 }

@@ -21,7 +21,8 @@ pub enum Cause {
 /// One thing that a report tells.
 #[derive(Debug, Drop)]
 pub enum Item {
-    /// The line with this number was accepted, as the snapshot with this number in the whole history.
+    /// The line with this number was accepted, as the snapshot with this number in the whole
+    /// history.
     Accepted {
         line: u64,
         number: u64,

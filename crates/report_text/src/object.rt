@@ -53,7 +53,8 @@ fn append_counted(out: &mut Vec<u8>, word: &[u8], number: u64) -> Result<(), Mem
     append_number(out, number)
 }
 
-/// Appends a comma before each element of a list but the first. What stood before stays, also on an error.
+/// Appends a comma before each element of a list but the first. What stood before stays, also on
+/// an error.
 fn append_comma(out: &mut Vec<u8>, place: usize) -> Result<(), Memory>
     ensures ok { OnOk result (out.new.items ≡ out.old.items ++ comma_if (nat_lt 0 place)) }
     ensures kept { take (vec_len out.old) out.new.items ≡ out.old.items }
@@ -75,18 +76,21 @@ fn append_next_name(
 ) -> Result<(), Memory>
     requires named { individual.0 < length ontology.now.individuals }
     requires spelled { AreIndividualsSpelled ontology.now }
-    ensures ok { OnOk result (out.new.items ≡ out.old.items ++ (comma_if (nat_lt 0 place) ++ value_text (name_data ontology.now.individuals individual))) }
+    ensures ok { OnOk result (out.new.items ≡ out.old.items ++ (comma_if (nat_lt 0 place)
+        ++ value_text (name_data ontology.now.individuals individual))) }
     ensures kept { take (vec_len out.old) out.new.items ≡ out.old.items }
 {
     append_comma(out, place)?;
     append_name(out, individual_name(ontology, individual))
 }
 
-/// Appends the names of a row and the bracket after them. What stood before stays, also on an error.
+/// Appends the names of a row and the bracket after them. What stood before stays, also on an
+/// error.
 fn append_names(out: &mut Vec<u8>, ontology: &Ontology, row: &[IndId]) -> Result<(), Memory>
     requires named { IsNamed ontology.now row.now }
     requires spelled { AreIndividualsSpelled ontology.now }
-    ensures ok { OnOk result (out.new.items ≡ out.old.items ++ items_text false (items_of (map (name_data ontology.now.individuals) row.now))) }
+    ensures ok { OnOk result (out.new.items ≡ out.old.items
+        ++ items_text false (items_of (map (name_data ontology.now.individuals) row.now))) }
     ensures kept { take (vec_len out.old) out.new.items ≡ out.old.items }
 {
     for place in 0..row.len() {
@@ -105,7 +109,8 @@ fn append_next_row(
 ) -> Result<(), Memory>
     requires named { IsNamed ontology.now row.now }
     requires spelled { AreIndividualsSpelled ontology.now }
-    ensures ok { OnOk result (out.new.items ≡ out.old.items ++ (comma_if (nat_lt 0 place) ++ value_text (tuple_data ontology.now.individuals row.now))) }
+    ensures ok { OnOk result (out.new.items ≡ out.old.items ++ (comma_if (nat_lt 0 place)
+        ++ value_text (tuple_data ontology.now.individuals row.now))) }
     ensures kept { take (vec_len out.old) out.new.items ≡ out.old.items }
 {
     append_comma(out, place)?;
@@ -113,10 +118,12 @@ fn append_next_row(
     append_names(out, ontology, row)
 }
 
-/// Appends the rows of one query and the bracket after them. What stood before stays, also on an error.
+/// Appends the rows of one query and the bracket after them. What stood before stays, also on an
+/// error.
 fn append_rows(out: &mut Vec<u8>, ontology: &Ontology, rows: &Tuples) -> Result<(), Memory>
     requires { AreNamed ontology.now rows.now.rows }
-    ensures ok { OnOk result (out.new.items ≡ out.old.items ++ items_text false (items_of (map (tuple_data ontology.now.individuals) rows.now.rows))) }
+    ensures ok { OnOk result (out.new.items ≡ out.old.items
+        ++ items_text false (items_of (map (tuple_data ontology.now.individuals) rows.now.rows))) }
     ensures kept { take (vec_len out.old) out.new.items ≡ out.old.items }
 {
     individuals_are_spelled(ontology);
@@ -141,10 +148,12 @@ fn append_size(out: &mut Vec<u8>, size: Option<u64>) -> Result<(), Memory>
     }
 }
 
-/// Appends the members of a query's object before its tuples. What stood before stays, also on an error.
+/// Appends the members of a query's object before its tuples. What stood before stays, also on an
+/// error.
 fn append_query_start(out: &mut Vec<u8>, query: &[u8], size: Option<u64>) -> Result<(), Memory>
     requires { IsName query.now }
-    ensures ok { OnOk result (out.new.items ≡ out.old.items ++ ((codes "{" ++ size_text size) ++ (codes "\"query\":" ++ value_text (string query.now)))) }
+    ensures ok { OnOk result (out.new.items ≡ out.old.items ++ ((codes "{" ++ size_text size)
+        ++ (codes "\"query\":" ++ value_text (string query.now)))) }
     ensures kept { take (vec_len out.old) out.new.items ≡ out.old.items }
 {
     out.extend_from_slice(b"{")?;
@@ -163,7 +172,8 @@ fn append_query(
 ) -> Result<(), Memory>
     requires spelled { IsName query.now }
     requires named { AreNamed ontology.now rows.now.rows }
-    ensures ok { OnOk result (out.new.items ≡ out.old.items ++ value_text (query_data ontology.now.individuals query.now size rows.now.rows)) }
+    ensures ok { OnOk result (out.new.items ≡ out.old.items
+        ++ value_text (query_data ontology.now.individuals query.now size rows.now.rows)) }
     ensures kept { take (vec_len out.old) out.new.items ≡ out.old.items }
 {
     append_query_start(out, query, size)?;
@@ -182,7 +192,8 @@ pub fn size_of(kept: &Option<Items<u64>>, place: usize) -> Option<u64>
     }
 }
 
-/// Appends the object at the place of the list of queries. What stood before stays, also on an error.
+/// Appends the object at the place of the list of queries. What stood before stays, also on an
+/// error.
 fn append_next_query(
     out: &mut Vec<u8>,
     place: usize,
@@ -193,14 +204,16 @@ fn append_next_query(
 ) -> Result<(), Memory>
     requires spelled { IsName query.now }
     requires named { AreNamed ontology.now rows.now.rows }
-    ensures ok { OnOk result (out.new.items ≡ out.old.items ++ (comma_if (nat_lt 0 place) ++ value_text (query_data ontology.now.individuals query.now size rows.now.rows))) }
+    ensures ok { OnOk result (out.new.items ≡ out.old.items ++ (comma_if (nat_lt 0 place)
+        ++ value_text (query_data ontology.now.individuals query.now size rows.now.rows))) }
     ensures kept { take (vec_len out.old) out.new.items ≡ out.old.items }
 {
     append_comma(out, place)?;
     append_query(out, query, size, ontology, rows)
 }
 
-/// Appends the objects of the queries and the bracket after them. What stood before stays, also on an error.
+/// Appends the objects of the queries and the bracket after them. What stood before stays, also on
+/// an error.
 fn append_queries(
     out: &mut Vec<u8>,
     ontology: &Ontology,
@@ -210,7 +223,8 @@ fn append_queries(
 ) -> Result<(), Memory>
     requires answered { AreAnswered ontology.now queries.now kept.now answers.now }
     requires spelled { AreSpelled queries.now }
-    ensures ok { OnOk result (out.new.items ≡ out.old.items ++ items_text false (items_of (queries_data ontology.now.individuals queries.now kept.now 0 answers.now))) }
+    ensures ok { OnOk result (out.new.items ≡ out.old.items ++ items_text false
+        (items_of (queries_data ontology.now.individuals queries.now kept.now 0 answers.now))) }
     ensures kept { take (vec_len out.old) out.new.items ≡ out.old.items }
 {
     for place in 0..answers.len() {
@@ -221,7 +235,8 @@ fn append_queries(
     out.extend_from_slice(b"]")
 }
 
-/// Appends the object of an accepted snapshot, with its newline. What stood before stays, also on an error.
+/// Appends the object of an accepted snapshot, with its newline. What stood before stays, also on
+/// an error.
 pub fn append_accepted_object(
     out: &mut Vec<u8>,
     line: u64,
@@ -233,7 +248,9 @@ pub fn append_accepted_object(
 ) -> Result<(), Memory>
     requires answered { AreAnswered ontology.now queries.now kept.now answers.now }
     requires spelled { AreSpelled queries.now }
-    ensures ok { OnOk result (out.new.items ≡ out.old.items ++ object_line (accepted_data line number (answers_data ontology.now.individuals queries.now kept.now answers.now))) }
+    ensures ok { OnOk result (out.new.items ≡ out.old.items ++ object_line
+        (accepted_data line number
+        (answers_data ontology.now.individuals queries.now kept.now answers.now))) }
     ensures kept { take (vec_len out.old) out.new.items ≡ out.old.items }
 {
     append_counted(out, b"{\"accepted\":", number)?;
@@ -246,7 +263,8 @@ pub fn append_accepted_object(
 /// Appends a cause's word and the end of the object. What stood before stays, also on an error.
 fn append_word(out: &mut Vec<u8>, word: &[u8]) -> Result<(), Memory>
     requires { IsVerbatim word.now }
-    ensures ok { OnOk result (out.new.items ≡ out.old.items ++ (codes ",\"refused\":" ++ (value_text (string word.now) ++ codes "}\n"))) }
+    ensures ok { OnOk result (out.new.items ≡ out.old.items
+        ++ (codes ",\"refused\":" ++ (value_text (string word.now) ++ codes "}\n"))) }
     ensures kept { take (vec_len out.old) out.new.items ≡ out.old.items }
 {
     out.extend_from_slice(b",\"refused\":")?;
@@ -254,10 +272,12 @@ fn append_word(out: &mut Vec<u8>, word: &[u8]) -> Result<(), Memory>
     out.extend_from_slice(b"}\n")
 }
 
-/// Appends the object of a refusal that has a word alone. What stood before stays, also on an error.
+/// Appends the object of a refusal that has a word alone. What stood before stays, also on an
+/// error.
 fn append_plain(out: &mut Vec<u8>, line: u64, word: &[u8]) -> Result<(), Memory>
     requires { IsVerbatim word.now }
-    ensures ok { OnOk result (out.new.items ≡ out.old.items ++ object_line (plain_data line word.now)) }
+    ensures ok { OnOk result
+        (out.new.items ≡ out.old.items ++ object_line (plain_data line word.now)) }
     ensures kept { take (vec_len out.old) out.new.items ≡ out.old.items }
 {
     append_counted(out, b"{\"line\":", line)?;
@@ -268,7 +288,8 @@ fn append_plain(out: &mut Vec<u8>, line: u64, word: &[u8]) -> Result<(), Memory>
 fn append_named(out: &mut Vec<u8>, line: u64, name: &[u8], word: &[u8]) -> Result<(), Memory>
     requires name { IsName name.now }
     requires word { IsVerbatim word.now }
-    ensures ok { OnOk result (out.new.items ≡ out.old.items ++ object_line (named_data line name.now word.now)) }
+    ensures ok { OnOk result
+        (out.new.items ≡ out.old.items ++ object_line (named_data line name.now word.now)) }
     ensures kept { take (vec_len out.old) out.new.items ≡ out.old.items }
 {
     append_counted(out, b"{\"line\":", line)?;
@@ -280,7 +301,8 @@ fn append_named(out: &mut Vec<u8>, line: u64, name: &[u8], word: &[u8]) -> Resul
 /// Appends the object of a refusal for a clash. What stood before stays, also on an error.
 fn append_clash(out: &mut Vec<u8>, line: u64, clash: u64, word: &[u8]) -> Result<(), Memory>
     requires { IsVerbatim word.now }
-    ensures ok { OnOk result (out.new.items ≡ out.old.items ++ object_line (clash_data line clash word.now)) }
+    ensures ok { OnOk result
+        (out.new.items ≡ out.old.items ++ object_line (clash_data line clash word.now)) }
     ensures kept { take (vec_len out.old) out.new.items ≡ out.old.items }
 {
     append_counted(out, b"{\"clash\":", clash)?;
@@ -292,7 +314,8 @@ fn append_clash(out: &mut Vec<u8>, line: u64, clash: u64, word: &[u8]) -> Result
 #[tactic(auto, unfolding(crate::specs::Objects::refused_data))]
 pub fn append_refused_object(out: &mut Vec<u8>, line: u64, cause: &Cause) -> Result<(), Memory>
     requires { IsSpelledCause cause.now }
-    ensures ok { OnOk result (out.new.items ≡ out.old.items ++ object_line (refused_data line cause.now)) }
+    ensures ok { OnOk result
+        (out.new.items ≡ out.old.items ++ object_line (refused_data line cause.now)) }
     ensures kept { take (vec_len out.old) out.new.items ≡ out.old.items }
 {
     let word = word_of_cause(cause);
@@ -309,7 +332,8 @@ pub fn append_refused_object(out: &mut Vec<u8>, line: u64, cause: &Cause) -> Res
 
 /// Appends the last object. What stood before stays, also on an error.
 pub fn append_end_object(out: &mut Vec<u8>, accepted: u64, refused: u64) -> Result<(), Memory>
-    ensures ok { OnOk result (out.new.items ≡ out.old.items ++ object_line (end_data accepted refused)) }
+    ensures ok { OnOk result
+        (out.new.items ≡ out.old.items ++ object_line (end_data accepted refused)) }
     ensures kept { take (vec_len out.old) out.new.items ≡ out.old.items }
 {
     append_counted(out, b"{\"accepted\":", accepted)?;

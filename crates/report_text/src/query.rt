@@ -37,7 +37,8 @@ fn append_term(out: &mut Vec<u8>, ontology: &Ontology, term: &Term) -> Result<()
 
 /// Appends two terms with a comma between. What stood before stays, also on an error.
 fn append_pair(out: &mut Vec<u8>, ontology: &Ontology, x: &Term, y: &Term) -> Result<(), Memory>
-    ensures ok { OnOk result (out.new.items ≡ out.old.items ++ (term_text ontology.now x.now ++ codes "," ++ term_text ontology.now y.now)) }
+    ensures ok { OnOk result (out.new.items ≡ out.old.items
+        ++ (term_text ontology.now x.now ++ codes "," ++ term_text ontology.now y.now)) }
     ensures kept { take (vec_len out.old) out.new.items ≡ out.old.items }
 {
     append_term(out, ontology, x)?;
@@ -68,7 +69,8 @@ fn append_atom(out: &mut Vec<u8>, ontology: &Ontology, atom: &Atom) -> Result<()
 
 /// Appends a space and a term. What stood before stays, also on an error.
 fn append_next_term(out: &mut Vec<u8>, ontology: &Ontology, term: &Term) -> Result<(), Memory>
-    ensures ok { OnOk result (out.new.items ≡ out.old.items ++ (codes " " ++ term_text ontology.now term.now)) }
+    ensures ok { OnOk result
+        (out.new.items ≡ out.old.items ++ (codes " " ++ term_text ontology.now term.now)) }
     ensures kept { take (vec_len out.old) out.new.items ≡ out.old.items }
 {
     out.extend_from_slice(b" ")?;
@@ -77,7 +79,8 @@ fn append_next_term(out: &mut Vec<u8>, ontology: &Ontology, term: &Term) -> Resu
 
 /// Appends terms, each after a space. What stood before stays, also on an error.
 fn append_terms(out: &mut Vec<u8>, ontology: &Ontology, terms: &[Term]) -> Result<(), Memory>
-    ensures ok { OnOk result (out.new.items ≡ out.old.items ++ flat_map (λ term. codes " " ++ term_text ontology.now term) terms.now) }
+    ensures ok { OnOk result (out.new.items
+        ≡ out.old.items ++ flat_map (λ term. codes " " ++ term_text ontology.now term) terms.now) }
     ensures kept { take (vec_len out.old) out.new.items ≡ out.old.items }
 {
     for term in terms {
@@ -102,7 +105,8 @@ fn append_head(out: &mut Vec<u8>, ontology: &Ontology, head: &[Term]) -> Result<
 
 /// Appends a comma, a space and an atom. What stood before stays, also on an error.
 fn append_next_atom(out: &mut Vec<u8>, ontology: &Ontology, atom: &Atom) -> Result<(), Memory>
-    ensures ok { OnOk result (out.new.items ≡ out.old.items ++ (codes ", " ++ atom_text ontology.now atom.now)) }
+    ensures ok { OnOk result
+        (out.new.items ≡ out.old.items ++ (codes ", " ++ atom_text ontology.now atom.now)) }
     ensures kept { take (vec_len out.old) out.new.items ≡ out.old.items }
 {
     out.extend_from_slice(b", ")?;
@@ -111,7 +115,8 @@ fn append_next_atom(out: &mut Vec<u8>, ontology: &Ontology, atom: &Atom) -> Resu
 
 /// Appends atoms, each after a comma and a space. What stood before stays, also on an error.
 fn append_atoms(out: &mut Vec<u8>, ontology: &Ontology, atoms: &[Atom]) -> Result<(), Memory>
-    ensures ok { OnOk result (out.new.items ≡ out.old.items ++ flat_map (λ atom. codes ", " ++ atom_text ontology.now atom) atoms.now) }
+    ensures ok { OnOk result (out.new.items
+        ≡ out.old.items ++ flat_map (λ atom. codes ", " ++ atom_text ontology.now atom) atoms.now) }
     ensures kept { take (vec_len out.old) out.new.items ≡ out.old.items }
 {
     for atom in atoms {
@@ -146,7 +151,8 @@ fn try_append_cq(out: &mut Vec<u8>, cq: &Cq, ontology: &Ontology) -> Result<(), 
     out.extend_from_slice(b"]")
 }
 
-/// Appends the text of a conjunctive query, `cq (H) = [A, A]` without a newline: H is the terms of its
+/// Appends the text of a conjunctive query, `cq (H) = [A, A]` without a newline: H is the terms of
+/// its
 /// head separated by a space, variable 3 is `?v3`, and a number that no name has has no text. The
 /// buffer is as before where memory runs out.
 pub fn append_cq(out: &mut Vec<u8>, cq: &Cq, ontology: &Ontology) -> Result<(), Memory>
@@ -181,7 +187,8 @@ fn try_append_leaf(out: &mut Vec<u8>, query: &[u8], place: u64, count: u64) -> R
     append_two(out, b" ", place, b" ", count)
 }
 
-/// Appends the line before those of a leaf: the query's name, the leaf's place among the nodes, and how
+/// Appends the line before those of a leaf: the query's name, the leaf's place among the nodes,
+/// and how
 /// many lines follow. The buffer is as before where memory runs out.
 pub fn append_leaf(out: &mut Vec<u8>, query: &[u8], place: u64, count: u64) -> Result<(), Memory>
     ensures ok { OnOk result (out.new.items ≡ out.old.items ++ leaf_line query.now place count) }

@@ -44,7 +44,8 @@ fn name_of(cause: &Cause) -> &[u8]
     }
 }
 
-/// Appends the number of the clash that is met, where that is the cause. What stood before stays, also on an error.
+/// Appends the number of the clash that is met, where that is the cause. What stood before stays,
+/// also on an error.
 fn append_clash(out: &mut Vec<u8>, cause: &Cause) -> Result<(), Memory>
     ensures ok { OnOk result (out.new.items ≡ out.old.items ++ cause_number cause.now) }
     ensures small { HasSmallClash cause.now }
@@ -67,10 +68,12 @@ pub fn append_accepted_row(out: &mut Vec<u8>, line: u64, number: u64) -> Result<
     out.extend_from_slice(b",,\n")
 }
 
-/// Appends the names of individuals, separated by one space. What stood before stays, also on an error.
+/// Appends the names of individuals, separated by one space. What stood before stays, also on an
+/// error.
 fn append_individuals(out: &mut Vec<u8>, ontology: &Ontology, row: &[IndId]) -> Result<(), Memory>
     requires { IsNamed ontology.now row.now }
-    ensures ok { OnOk result (out.new.items ≡ out.old.items ++ individuals_text ontology.now.individuals row.now) }
+    ensures ok { OnOk result
+        (out.new.items ≡ out.old.items ++ individuals_text ontology.now.individuals row.now) }
     ensures kept { take (vec_len out.old) out.new.items ≡ out.old.items }
 {
     match row {
@@ -108,7 +111,8 @@ fn put(front: &mut ArrayVec<u8, FRONT_LIMIT>, bytes: &[u8])
     front.try_extend_from_slice(bytes).unwrap();
 }
 
-/// Appends the row of an answer, of which the shared fields are given. What stood before stays, also on an error.
+/// Appends the row of an answer, of which the shared fields are given. What stood before stays,
+/// also on an error.
 fn append_detail(
     out: &mut Vec<u8>,
     front: &[u8],
@@ -116,7 +120,8 @@ fn append_detail(
     row: &[IndId],
 ) -> Result<(), Memory>
     requires { IsNamed ontology.now row.now }
-    ensures ok { OnOk result (out.new.items ≡ out.old.items ++ (front.now ++ answer_detail ontology.now.individuals row.now)) }
+    ensures ok { OnOk result (out.new.items
+        ≡ out.old.items ++ (front.now ++ answer_detail ontology.now.individuals row.now)) }
     ensures kept { take (vec_len out.old) out.new.items ≡ out.old.items }
 {
     out.extend_from_slice(front)?;
@@ -135,7 +140,8 @@ fn append_answer_row(
 ) -> Result<(), Memory>
     requires named { IsNamed ontology.now row.now }
     requires spelled { IsName query.now }
-    ensures ok { OnOk result (out.new.items ≡ out.old.items ++ answer_row ontology.now.individuals line number query.now row.now) }
+    ensures ok { OnOk result (out.new.items
+        ≡ out.old.items ++ answer_row ontology.now.individuals line number query.now row.now) }
     ensures kept { take (vec_len out.old) out.new.items ≡ out.old.items }
 {
     individuals_are_spelled(ontology);
@@ -154,7 +160,8 @@ pub fn append_answer_rows(
 ) -> Result<(), Memory>
     requires named { AreNamed ontology.now rows.now.rows }
     requires spelled { IsName query.now }
-    ensures ok { OnOk result (out.new.items ≡ out.old.items ++ answer_rows ontology.now.individuals line number query.now rows.now.rows) }
+    ensures ok { OnOk result (out.new.items ≡ out.old.items
+        ++ answer_rows ontology.now.individuals line number query.now rows.now.rows) }
     ensures kept { take (vec_len out.old) out.new.items ≡ out.old.items }
 {
     individuals_are_spelled(ontology);
@@ -181,7 +188,8 @@ pub fn append_kept_row(out: &mut Vec<u8>, line: u64, size: u64, query: &[u8]) ->
 
 /// Appends the last two fields of a row. What stood before stays, also on an error.
 fn append_last_fields(out: &mut Vec<u8>, name: &[u8], detail: &[u8]) -> Result<(), Memory>
-    ensures ok { OnOk result (out.new.items ≡ out.old.items ++ (codes "," ++ name.now ++ codes "," ++ detail.now ++ codes "\n")) }
+    ensures ok { OnOk result (out.new.items
+        ≡ out.old.items ++ (codes "," ++ name.now ++ codes "," ++ detail.now ++ codes "\n")) }
     ensures kept { take (vec_len out.old) out.new.items ≡ out.old.items }
 {
     out.extend_from_slice(b",")?;
@@ -225,7 +233,8 @@ pub fn append_item_row(
     requires named { HasNames ontology.now queries.now item.now }
     requires queries_spelled { AreSpelled queries.now }
     requires cause_spelled { IsSpelledItem item.now }
-    ensures ok { OnOk result (out.new.items ≡ out.old.items ++ item_row ontology.now queries.now item.now) }
+    ensures ok { OnOk result
+        (out.new.items ≡ out.old.items ++ item_row ontology.now queries.now item.now) }
     ensures kept { take (vec_len out.old) out.new.items ≡ out.old.items }
 {
     match item {
