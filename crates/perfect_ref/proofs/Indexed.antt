@@ -1,8 +1,7 @@
 -- Lists of inclusions by number.
-use Rattle.std.proofs.Common.{◌≡◌, ◌==◌, ℕ, zero, suc, ◌<◌, ◌≤◌, Bool, true, false, cond, List, [], ◌∷◌, ◌++◌, length, get_or, refl, sym, ◌∙◌, ap, subst, arith, inl, inr, eq-eqb, Vec, Global}
+use Rattle.std.proofs.Common.{◌≡◌, ◌==◌, ℕ, Bool, true, false, cond, List, [], ◌∷◌, ◌++◌, refl, sym, ◌∙◌, ap, subst, inl, inr, eq-eqb, Vec, Global}
 use Rattle.std.specs.Prelude.{◌⊎◌, Some, None}
 use Rattle.std.specs.List.{All, Contains}
-use Rattle.std.proofs.Math.ListN.{set}
 use Rattle.std.proofs.lemmas.Bool.{eqb-true}
 use Rattle.std.proofs.lemmas.List.Elements.{All-nil, All-weaker, All-contains, Contains-append_left, Contains-push, Contains-push_cases}
 use Rattle.dl_syntax.specs.declared.names.ConceptId.{ConceptId}
@@ -19,52 +18,13 @@ use Rattle.dl_syntax.proofs.AllByCons.{Contains-none, All-from_contains}
 use Rattle.dl_syntax.specs.Encode.{IsUnqualified}
 use Rattle.query_unify.specs.Table.{Becomes}
 use Rattle.query_unify.specs.Saturation.{MakesNulls}
+use Rattle.worklist.specs.Lists.{listed}
 use Rattle.perfect_ref.specs.declared.rules.Side.{Side}
 use Rattle.perfect_ref.specs.declared.rules.Side.TheVariants as side
-use Rattle.perfect_ref.specs.Rules.{number_on, listed, IsIndex, IsFor, MakesFor, IsCandidates, IsNullMakers}
+use Rattle.perfect_ref.specs.Rules.{number_on, IsIndex, IsFor, MakesFor, IsCandidates, IsNullMakers}
 
 abbrev pub Lists : Type 0
 Lists = List (Vec Inclusion Global)
-
--- an empty list more changes nothing
-pub listed-push : (lists : Lists) (list : Vec Inclusion Global) → list.items ≡ [] → (k : ℕ) → listed (lists ++ list ∷ []) k ≡ listed lists k
-listed-push [] list none zero = none
-listed-push [] list none (suc k) = refl
-listed-push (first ∷ lists) list none zero = refl
-listed-push (first ∷ lists) list none (suc k) = listed-push lists list none k
-
-listed-set_same : (lists : Lists) (place : ℕ) (list : Vec Inclusion Global) → place < length lists → listed (set lists place list) place ≡ list.items
-listed-set_same [] place list within = absurd (omega arith)
-listed-set_same (first ∷ lists) zero list within = refl
-listed-set_same (first ∷ lists) (suc place) list within = listed-set_same lists place list (omega arith)
-
-listed-set_other : (lists : Lists) (place : ℕ) (list : Vec Inclusion Global) (k : ℕ) → (k ≡ place → ⊥) → listed (set lists place list) k ≡ listed lists k
-listed-set_other [] place list k other = refl
-listed-set_other (first ∷ lists) zero list zero other = absurd (other refl)
-listed-set_other (first ∷ lists) zero list (suc k) other = refl
-listed-set_other (first ∷ lists) (suc place) list zero other = refl
-listed-set_other (first ∷ lists) (suc place) list (suc k) other = listed-set_other lists place list k (λ same. other (ap suc same))
-
-pub listed-at : (lists : Lists) (place : ℕ) (d : Vec Inclusion Global) → place < length lists → (get_or lists place d).items ≡ listed lists place
-listed-at [] place d within = absurd (omega arith)
-listed-at (first ∷ lists) zero d within = refl
-listed-at (first ∷ lists) (suc place) d within = listed-at lists place d (omega arith)
-
--- one more inclusion in the list of the number
-pub listed-put : (old reserved : Lists) (number : ℕ) (list d : Vec Inclusion Global) (x : Inclusion) → number < length reserved → ((k : ℕ) → listed reserved k ≡ listed old k) → list.items ≡ (get_or reserved number d).items ++ x ∷ [] → (k : ℕ) → listed (set reserved number list) k ≡ cond (k == number) (listed old k ++ x ∷ []) (listed old k)
-listed-put old reserved number list d x room same is k = by (k == number) refl
-  where
-    by : (b : Bool) → (k == number) ≡ b → listed (set reserved number list) k ≡ cond b (listed old k ++ x ∷ []) (listed old k)
-    by true is' =
-        let here : k ≡ number = eqb-true k number is' in
-        ap (listed (set reserved number list)) here ∙ listed-set_same reserved number list room ∙ is
-        ∙ ap (λ (xs : List Inclusion). xs ++ x ∷ []) (listed-at reserved number d room ∙ same number ∙ ap (listed old) (sym here))
-    by false is' = listed-set_other reserved number list k (λ here. let yes : (k == number) ≡ true = eq-eqb k number here in cc) ∙ same k
-
-pub listed-beyond : (lists : Lists) (place : ℕ) → length lists ≤ place → listed lists place ≡ []
-listed-beyond [] place beyond = refl
-listed-beyond (first ∷ lists) zero beyond = absurd (omega arith)
-listed-beyond (first ∷ lists) (suc place) beyond = listed-beyond lists place (omega arith)
 
 pub index-start : (kind : Side) (xs : List Inclusion) (lists : Lists) → xs ≡ [] → lists ≡ [] → IsIndex kind xs lists
 index-start kind xs lists none empty = record {

@@ -1,5 +1,5 @@
 -- Inclusions by what stands on their right side.
-use Rattle.std.specs.Prelude.{◌≡◌, ◌↔◌, ℕ, zero, suc, Option, Some, None, List, [], ◌∷◌, Vec}
+use Rattle.std.specs.Prelude.{◌≡◌, ◌↔◌, ℕ, Option, Some, None, List, Vec}
 use Rattle.std.specs.Global.{Global}
 use Rattle.std.specs.List.{All, Contains}
 use Rattle.dl_syntax.specs.declared.ontology.Basic.TheVariants as basic
@@ -9,6 +9,7 @@ use Rattle.dl_syntax.specs.declared.queries.Atom.{Atom}
 use Rattle.dl_syntax.specs.declared.queries.Atom.TheVariants as atom
 use Rattle.dl_syntax.specs.Encode.{IsUnqualified}
 use Rattle.query_unify.specs.Saturation.{MakesNulls}
+use Rattle.worklist.specs.Lists.{listed}
 use Rattle.perfect_ref.specs.declared.rules.Side.{Side}
 use Rattle.perfect_ref.specs.declared.rules.Side.TheVariants as side
 
@@ -18,12 +19,6 @@ number_on side.Concept (inclusion.Concepts b (basic.Concept c)) = Some c.0
 number_on side.Exists (inclusion.Concepts b (basic.Some r)) = Some r.id.0
 number_on side.Role (inclusion.Roles r s) = Some s.id.0
 number_on kind i = None
-
--- the list of the number, where there is one
-abbrev pub listed : List (Vec Inclusion Global) → ℕ → List Inclusion
-listed [] k = []
-listed (list ∷ lists) zero = list.items
-listed (list ∷ lists) (suc k) = listed lists k
 
 -- each list has exactly the inclusions with its number on the right
 pub record IsIndex (kind : Side) (inclusions : List Inclusion) (lists : List (Vec Inclusion Global)) : Type 0 where

@@ -10,4 +10,6 @@ mod successors;
 #[cfg(test)]
 mod tests;
 
-pub use rewriting::{CountedRewriting, RewriteFault, Rewriter, reach_count, rewrite, rewrite_core};
+pub use rewriting::{
+    CountedRewriting, RewriteFault, Rewriter, WholeAndCore, reach_count, rewrite, rewrite_core,
+};

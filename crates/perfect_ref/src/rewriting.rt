@@ -35,6 +35,17 @@ pub struct CountedRewriting {
     pub reached: u32,
 }
 
+/// The rewriting of a query beside its core, and how much was reached for them.
+#[derive(Debug, Drop)]
+pub struct WholeAndCore {
+    /// The distinct reachable queries that name no hidden role, in an order of the call's choice.
+    pub whole: Vec<Cq>,
+    /// Those that give the answers over facts to which nothing can be added, each once.
+    pub core: Vec<Cq>,
+    /// How many queries are reachable, those with hidden roles counted too.
+    pub reached: u32,
+}
+
 /// What rewriting needs of an ontology, made once for many queries.
 #[derive(Drop)]
 pub struct Rewriter {
@@ -240,7 +251,34 @@ impl Rewriter {
         }
     }
 
-    /// The same queries alone.
+    /// The rewriting, its core and the count of the reachable queries, in one pass. The refusals are those of `rewrite`.
+    pub fn whole_and_core(&self, cq: &Cq, room: u32) -> Result<WholeAndCore, RewriteFault>
+        requires query { IsQuery cq.now }
+        requires plain { IsPlain self.now.roles cq.now }
+        ensures whole { IfOk result (λ both. Lists (PlainReachable self.now cq.now) both.whole.items) }
+        ensures core { IfOk result (λ both. Lists (PlainCore self.now cq.now) both.core.items) }
+        ensures count { IfOk result (λ both. HoldsOf (Reachable self.now cq.now) both.reached) }
+        ensures few { IfOk result (λ both. both.reached ≤ room) }
+        ensures within { IfOk result (λ _. HoldsOfMore (Reachable self.now cq.now) room → ⊥) }
+        ensures many { result ≡ Err RewriteFault.TooManyRewritings → HoldsOfMore (Reachable self.now cq.now) room }
+    {
+        match self.reach(cq, room) {
+            Ok(found) => {
+                let reached = found.len() as u32;
+                match self.parts(cq, found) {
+                    Ok((whole, core)) => Ok(WholeAndCore {
+                        whole,
+                        core,
+                        reached,
+                    }),
+                    Err(_) => Err(RewriteFault::Memory),
+                }
+            }
+            Err(fault) => Err(fault),
+        }
+    }
+
+    /// The core alone.
     pub fn rewrite_core(&self, cq: &Cq, room: u32) -> Result<Vec<Cq>, RewriteFault>
         requires query { IsQuery cq.now }
         requires plain { IsPlain self.now.roles cq.now }
@@ -252,6 +290,19 @@ impl Rewriter {
             Ok(core) => Ok(core.members),
             Err(fault) => Err(fault),
         }
+    }
+
+    /// The rewriting and the core of a query whose reachable ones are found.
+    fn parts(&self, cq: &Cq, found: IndexSet<Cq>) -> Result<(Vec<Cq>, Vec<Cq>), Memory>
+        requires query { IsQuery cq.now }
+        requires plain { IsPlain self.now.roles cq.now }
+        requires found { Lists (Reachable self.now cq.now) found.keys }
+        ensures whole { IfOk result (λ parts. Lists (PlainReachable self.now cq.now) parts.0.items) }
+        ensures core { IfOk result (λ parts. Lists (PlainCore self.now cq.now) parts.1.items) }
+    {
+        let core = self.core(cq, found.as_slice())?;
+        let whole = plain_members(self.rules.alloc(), self.roles, found)?;
+        Ok((whole, core))
     }
 
     /// The core of a query whose reachable ones are found.

@@ -1,11 +1,12 @@
 ghost use Rattle.std.specs.Prelude.{◌≡◌, ◌==◌, ◌<◌, ◌^◌, ◌++◌, ◌∷◌, [], ℕ, length, IfOk, OnOk, if◌then◌else◌};
 ghost use Rattle.std.specs.List.{All};
 ghost use Rattle.dl_syntax.specs.Encode.{IsUnqualified};
-ghost use Rattle.perfect_ref.specs.Rules.{number_on as number_of, listed, IsIndex, IsCandidates, IsNullMakers};
+ghost use Rattle.perfect_ref.specs.Rules.{number_on as number_of, IsIndex, IsCandidates, IsNullMakers};
 
 use dl_syntax::{Atom, Basic, Inclusion, Memory};
 use std::alloc::Global;
 use std::marker::Model;
+use worklist::{add_at, list_at};
 
 /// What stands on the right side of an inclusion: a concept, `some` of a role, or a role.
 #[derive(Clone, Copy)]
@@ -52,34 +53,6 @@ fn number_on(side: Side, inclusion: &Inclusion) -> Option<u32>
     }
 }
 
-/// Makes room for a list of the number.
-fn reserve(alloc: Global, lists: &mut Vec<Vec<Inclusion>>, number: usize) -> Result<(), Memory>
-    requires { number < 2 ^ 32 }
-    ensures room { OnOk result (number < length lists.new.items) }
-    ensures same { OnOk result ((k : ℕ) → listed lists.new.items k ≡ listed lists.old.items k) }
-{
-    while lists.len() <= number {
-        let list = Vec::new(alloc);
-        lists.push(list)?;
-    }
-    Ok(())
-}
-
-/// Puts the inclusion last in the list of the number.
-fn add_at(
-    alloc: Global,
-    lists: &mut Vec<Vec<Inclusion>>,
-    number: u32,
-    inclusion: Inclusion,
-) -> Result<(), Memory>
-    ensures { OnOk result ((k : ℕ) → listed lists.new.items k ≡ (if k == number then listed lists.old.items k ++ inclusion ∷ [] else listed lists.old.items k)) }
-{
-    let place = number as usize;
-    reserve(alloc, lists, place)?;
-    lists[place].push(inclusion)?;
-    Ok(())
-}
-
 /// The inclusions by the number on their right side.
 fn index_by(
     alloc: Global,
@@ -96,18 +69,6 @@ fn index_by(
         }
     }
     Ok(lists)
-}
-
-/// The list of the number.
-fn list_at(lists: &[Vec<Inclusion>], number: u32) -> &[Inclusion]
-    ensures { result.now ≡ listed lists.now number }
-{
-    let place = number as usize;
-    if place < lists.len() {
-        lists[place].as_slice()
-    } else {
-        &[]
-    }
 }
 
 impl Rules {

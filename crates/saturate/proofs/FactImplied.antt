@@ -23,7 +23,8 @@ use Rattle.saturate.specs.declared.graph.Scope.{Scope}
 use Rattle.saturate.specs.declared.graph.Scope.TheVariants as scope
 use Rattle.saturate.specs.declared.graph.Place.TheVariants as place
 use Rattle.saturate.specs.declared.graph.Arrow.{Arrow}
-use Rattle.saturate.specs.Lists.{listed, Absorbs}
+use Rattle.worklist.specs.Lists.{listed}
+use Rattle.saturate.specs.Lists.{Absorbs}
 use Rattle.saturate.specs.Above.{all_arrows, Along, forward, source_of, IsConceptTable, IsRoleTable}
 use Rattle.saturate.specs.declared.sight.Sight.{Sight}
 use Rattle.saturate.specs.Sight.{Sees, IsSeenSaturation}

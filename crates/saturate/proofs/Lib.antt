@@ -1,5 +1,4 @@
 pub mod DerivedRuns
-pub mod ListedLists
 pub mod Absorbing
 pub mod Arrows
 pub mod Implications

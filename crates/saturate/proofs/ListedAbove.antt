@@ -19,9 +19,9 @@ use Rattle.saturate.specs.declared.graph.Scope.TheVariants as scope
 use Rattle.saturate.specs.declared.graph.Place.{Place}
 use Rattle.saturate.specs.declared.graph.Place.TheVariants as place
 use Rattle.saturate.specs.Derived.{inverse_of}
-use Rattle.saturate.specs.Lists.{listed}
+use Rattle.worklist.specs.Lists.{listed}
 use Rattle.saturate.specs.Above.{arrow, arrows_of, all_arrows, Along, forward, source_of, number_in, IsIndex, HasConcepts, HasRoles, IsConceptTable, IsRoleTable, ConceptsOf, RolesOf}
-use Rattle.saturate.proofs.ListedLists.{listed-beyond, listed-front, listed-last}
+use Rattle.worklist.proofs.ListedLists.{listed-beyond, listed-front, listed-last}
 use Rattle.saturate.proofs.Arrows.{arrow_from, role_cases, only_itself}
 
 pub index-start : (kind : Place) (lists : List (Vec Basic Global)) → lists ≡ [] → IsIndex kind [] lists

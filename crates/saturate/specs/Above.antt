@@ -15,7 +15,7 @@ use Rattle.saturate.specs.declared.graph.Scope.TheVariants as scope
 use Rattle.saturate.specs.declared.graph.Place.{Place}
 use Rattle.saturate.specs.declared.graph.Place.TheVariants as place
 use Rattle.saturate.specs.Derived.{inverse_of}
-use Rattle.saturate.specs.Lists.{listed}
+use Rattle.worklist.specs.Lists.{listed}
 
 abbrev pub arrow : Basic → Basic → Arrow
 arrow b c = record { from = b; to = c }

@@ -4,12 +4,11 @@ ghost use Rattle.worklist.specs.Reach.{IsClosure};
 ghost use Rattle.saturate.specs.Derived.{inverse_of};
 ghost use Rattle.saturate.specs.Above.{arrows_of, all_arrows, Along, source_of, number_in as number_of, IsIndex, IsNext};
 
-use crate::lists::{add_at, list_at};
 use dl_syntax::{Basic, ConceptId, Inclusion, Memory, Role, RoleId};
 use indexmap::IndexSet;
 use std::alloc::{AllocError, Global};
 use std::marker::Model;
-use worklist::{ClosureFault, Transition, closure};
+use worklist::{ClosureFault, Transition, add_at, closure, list_at};
 
 /// That one basic concept stands directly above another.
 #[derive(Clone, Copy)]

@@ -6,7 +6,6 @@
 
 mod graph;
 pub mod laws;
-mod lists;
 mod saturator;
 mod sight;
 mod tables;

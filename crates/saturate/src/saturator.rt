@@ -7,13 +7,13 @@ ghost use Rattle.saturate.specs.Implied.{IsMembership, IsPairing, Implies, IsImp
 ghost use Rattle.saturate.specs.Sight.{Seen, IsSeenSaturation};
 
 use crate::graph::{Graph, Place, Scope};
-use crate::lists::list_at;
 use crate::sight::Sight;
 use crate::tables::{concept_table, role_table};
 use dl_syntax::{ConceptId, Element, Fact, Inclusion, Kind, Memory, Ontology, Role, Snapshot};
 use indexmap::IndexSet;
 use std::alloc::Global;
 use std::marker::Model;
+use worklist::list_at;
 
 /// What saturation needs of an ontology, made once for many snapshots: for each concept and role what stands above it. Seen as the ontology's inclusions.
 #[derive(Drop)]

@@ -1,11 +1,14 @@
-//! The values that finitely many steps of a transition lead to from one value, up to a limit.
+//! The values that finitely many steps of a transition lead to from one value, up to a limit, and lists by number, as of what a step leads to.
 #![tactic(auto)]
 
 ghost use Rattle.std.specs.Prelude.{◌≡◌, ◌++◌, [], ◌<◌, ◌≤◌, List, All, Contains, length, IfOk, OnOk};
 ghost use Rattle.indexmap.specs.IndexSet.{index_set_len, IsUnique};
 ghost use Rattle.worklist.specs.Reach.{IsExact, IsClosure, Reaches, ReachesMore, Grows, Expands, IsDone};
 
+mod lists;
+
 use indexmap::IndexSet;
+pub use lists::{add_at, list_at};
 use std::alloc::{AllocError, AllocFailed, Global};
 use std::hash::Hash;
 

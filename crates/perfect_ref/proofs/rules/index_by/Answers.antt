@@ -3,7 +3,8 @@ use Rattle.std.proofs.lemmas.List.{take_more, take_all}
 use Rattle.dl_syntax.specs.declared.ontology.Inclusion.{Inclusion}
 use Rattle.dl_syntax.specs.declared.ontology.Inclusion.TheVariants.{Concepts}
 use Rattle.dl_syntax.specs.declared.ontology.Basic.TheVariants.{Concept}
-use Rattle.perfect_ref.specs.Rules.{listed, IsIndex}
+use Rattle.worklist.specs.Lists.{listed}
+use Rattle.perfect_ref.specs.Rules.{IsIndex}
 use Rattle.perfect_ref.proofs.Indexed.{Lists, index-start, index-add, index-skip}
 use Rattle.perfect_ref.proofs.rules.index_by.Goals as goal
 use Rattle.perfect_ref.proofs.rules.index_by.Goals.{in-Some+in_ok-add_at-in-Some, in-None}

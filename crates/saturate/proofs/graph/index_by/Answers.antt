@@ -3,7 +3,7 @@ use Rattle.std.proofs.lemmas.List.{take_more, take_all}
 use Rattle.dl_syntax.specs.declared.ontology.Basic.{Basic}
 use Rattle.dl_syntax.specs.declared.ontology.Basic.TheVariants.{Concept}
 use Rattle.saturate.specs.declared.graph.Arrow.{Arrow}
-use Rattle.saturate.specs.Lists.{listed}
+use Rattle.worklist.specs.Lists.{listed}
 use Rattle.saturate.specs.Above.{IsIndex, arrow}
 use Rattle.saturate.proofs.ListedAbove.{index-start, index-add, index-skip}
 use Rattle.saturate.proofs.graph.index_by.Goals as goal

@@ -1,7 +1,8 @@
 use Rattle.std.proofs.Common.{◌≡◌, List, ◌∙◌, sym, ap, subst}
 use Rattle.dl_syntax.specs.declared.ontology.Inclusion.{Inclusion}
 use Rattle.dl_syntax.specs.declared.queries.Atom.{Atom}
-use Rattle.perfect_ref.specs.Rules.{listed, IsCandidates}
+use Rattle.worklist.specs.Lists.{listed}
+use Rattle.perfect_ref.specs.Rules.{IsCandidates}
 use Rattle.perfect_ref.proofs.Indexed.{Lists, candidates-concept, candidates-role}
 use Rattle.perfect_ref.proofs.rules.Rules.candidates.Goals as goal
 

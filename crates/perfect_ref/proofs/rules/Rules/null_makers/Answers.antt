@@ -1,7 +1,8 @@
 use Rattle.std.proofs.Common.{◌≡◌, List, ◌∙◌, sym, ap, subst}
 use Rattle.dl_syntax.specs.declared.ontology.Inclusion.{Inclusion}
 use Rattle.dl_syntax.specs.declared.queries.Atom.{Atom}
-use Rattle.perfect_ref.specs.Rules.{listed, IsNullMakers}
+use Rattle.worklist.specs.Lists.{listed}
+use Rattle.perfect_ref.specs.Rules.{IsNullMakers}
 use Rattle.perfect_ref.proofs.Indexed.{Lists, null_makers-role}
 use Rattle.perfect_ref.proofs.rules.Rules.null_makers.Goals as goal
 

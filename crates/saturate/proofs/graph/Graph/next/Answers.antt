@@ -4,7 +4,7 @@ use Rattle.dl_syntax.specs.declared.ontology.Basic.TheVariants as basic
 use Rattle.saturate.specs.declared.graph.Arrow.{Arrow}
 use Rattle.saturate.specs.declared.graph.Place.{Place}
 use Rattle.saturate.specs.declared.graph.Place.TheVariants as place
-use Rattle.saturate.specs.Lists.{listed}
+use Rattle.worklist.specs.Lists.{listed}
 use Rattle.saturate.specs.Above.{IsIndex, IsNext, source_of}
 use Rattle.saturate.proofs.graph.Graph.next.Goals as goal
 

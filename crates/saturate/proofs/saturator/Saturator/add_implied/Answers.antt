@@ -5,7 +5,8 @@ use Rattle.dl_syntax.specs.declared.ontology.Role.{Role}
 use Rattle.dl_syntax.specs.declared.ontology.Inclusion.{Inclusion}
 use Rattle.dl_syntax.specs.declared.facts.Fact.{Fact}
 use Rattle.dl_syntax.specs.declared.facts.Fact.TheVariants as fact
-use Rattle.saturate.specs.Lists.{listed, Absorbs}
+use Rattle.worklist.specs.Lists.{listed}
+use Rattle.saturate.specs.Lists.{Absorbs}
 use Rattle.saturate.specs.Sight.{Sees}
 use Rattle.saturate.specs.Implied.{IsMembership, IsPairing, Implies}
 use Rattle.saturate.proofs.FactImplied.{concept_added, role_added}
