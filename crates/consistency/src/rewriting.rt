@@ -55,10 +55,12 @@ fn rewriting_of(rewriter: &Rewriter, query: &Cq, room: u32) -> Result<Rewriting,
     ensures few { IfOk result (λ rewriting. rewriting.count ≤ room) }
     ensures many { result ≡ Err RewriteFault.TooManyRewritings → HoldsOfMore (Reachable rewriter.now query.now) room }
 {
-    let count = rewriter.reach_count(query, room)?;
-    let whole = rewriter.rewrite(query, room)?;
-    let core = rewriter.rewrite_core(query, room)?;
-    Ok(Rewriting { whole, core, count })
+    let both = rewriter.whole_and_core(query, room)?;
+    Ok(Rewriting {
+        whole: both.whole,
+        core: both.core,
+        count: both.reached,
+    })
 }
 
 // The rewriting of a clash's query.
