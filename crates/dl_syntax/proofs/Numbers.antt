@@ -4,7 +4,7 @@ use Rattle.std.specs.Prelude.{◌≢◌, ◌⊎◌, Option, Some, None, MatchOpt
 use Rattle.std.specs.List.{AllPairs, Contains, position, position_or_len}
 use Rattle.std.specs.Str.{bytes_eq}
 use Rattle.std.specs.Bool.{Decides}
-use Rattle.std.proofs.lemmas.Bool.{cond-true, cases_lt}
+use Rattle.std.proofs.lemmas.Bool.{cond-true, cases_lt, true≢false}
 use Rattle.std.proofs.lemmas.Bool.Decides.{Decides-or, Decides-ltb}
 use Rattle.std.proofs.lemmas.Slice.Eq.{bytes_eq-Decides}
 use Rattle.std.proofs.lemmas.List.Sums.{position_or_len_is, fails_before_first}
@@ -87,3 +87,24 @@ pub declared_decides : (o : Declared) (text : List ℕ) → Decides (is_declared
 declared_decides o text =
     Decides-or (is_some (number_of Concept o text)) _ (place_decides o.concepts text)
     (Decides-or (is_some (number_of Role o text)) (is_some (number_of Individual o text)) (place_decides o.roles text) (place_decides o.individuals text))
+
+-- two tests that decide the same are equal
+decided_alike : {P : Type 0} (a b : Bool) → Decides a P → Decides b P → a ≡ b
+decided_alike true true one other = refl
+decided_alike true false one other = absurd (true≢false (sym (other.1 (one.0 refl))))
+decided_alike false true one other = absurd (true≢false (sym (one.1 (other.0 refl))))
+decided_alike false false one other = refl
+
+-- what decides whether a text is declared is the definition's test
+pub declared_said : (o : Declared) (text : List ℕ) (said : Bool) → Decides said (IsDeclared o text)
+    → said ≡ is_declared o text
+declared_said o text said decides = decided_alike said (is_declared o text) decides (declared_decides o text)
+
+-- the kind of a text tells whether it is declared
+pub kind_decides : (o : Declared) (text : List ℕ) (found : Option Kind)
+    → MatchOption found (¬ IsDeclared o text) (λ kind. Contains (names_of kind o) text)
+    → Decides (is_some found) (IsDeclared o text)
+kind_decides o text None missing = (λ some. absurd cc, λ there. absurd (missing there))
+kind_decides o text (Some Concept) there = (λ _. inl there, λ _. refl)
+kind_decides o text (Some Role) there = (λ _. inr (inl there), λ _. refl)
+kind_decides o text (Some Individual) there = (λ _. inr (inr there), λ _. refl)

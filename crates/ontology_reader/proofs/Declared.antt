@@ -1,4 +1,4 @@
--- The number of a name in an ontology.
+-- What a declaration does.
 use Rattle.std.proofs.Common.{◌≡◌, ℕ, ◌≤◌, ◌<◌, Bool, true, false, ltb, List, length, refl, sym, ◌∙◌, arith}
 use Rattle.std.specs.Prelude.{◌≢◌, Option, Some, None, Ok, Err, MatchOption, slice_get, is_some}
 use Rattle.std.specs.List.{AllPairs, Contains}
@@ -7,28 +7,10 @@ use Rattle.std.proofs.lemmas.Bool.{cond-true, cond-false, cond_above}
 use Rattle.std.proofs.lemmas.Bool.Decides.{Decides-or, Decides-ltb}
 use Rattle.dl_syntax.specs.declared.names.Kind.{Kind}
 use Rattle.dl_syntax.specs.declared.names.Kind.TheVariants.{Concept, Role, Individual}
-use Rattle.dl_syntax.specs.Ontology.{Declared, IsOntology, IsDeclared, names_of, with_name, most_names}
-use Rattle.dl_syntax.proofs.AllByCons.{AllPairs-front, AllPairs-back}
+use Rattle.dl_syntax.specs.Ontology.{Declared, is_declared, IsOntology, IsDeclared, names_of, with_name, most_names}
 use Rattle.ontology_reader.specs.declared.OntologyKind.TheVariants.{NameTwice, TooMany}
-use Rattle.ontology_reader.specs.Adding.{number_of, is_declared, declared}
-use Rattle.ontology_reader.proofs.Numbers.{place_there, place_missing, place_decides}
-
-names_distinct : (kind : Kind) (o : Declared) → IsOntology o → AllPairs (λ a b. a ≢ b) (names_of kind o)
-names_distinct Concept o sound = AllPairs-front (λ a b. a ≢ b) o.concepts _ sound.distinct
-names_distinct Role o sound = AllPairs-front (λ a b. a ≢ b) o.roles o.individuals (AllPairs-back (λ a b. a ≢ b) o.concepts _ sound.distinct)
-names_distinct Individual o sound = AllPairs-back (λ a b. a ≢ b) o.roles o.individuals (AllPairs-back (λ a b. a ≢ b) o.concepts _ sound.distinct)
-
-pub found_number : (kind : Kind) (o : Declared) (text : List ℕ) (found : Option ℕ) → IsOntology o
-    → MatchOption found (¬ Contains (names_of kind o) text) (λ number. slice_get (names_of kind o) number ≡ Some text) → found ≡ number_of kind o text
-found_number kind o text None sound missing = sym (place_missing (names_of kind o) text missing)
-found_number kind o text (Some n) sound at = sym (place_there (names_of kind o) text n (names_distinct kind o sound) at)
-
-pub declared_decides : (o : Declared) (text : List ℕ) → Decides (is_declared o text) (IsDeclared o text)
-declared_decides o text =
-    Decides-or (is_some (number_of Concept o text)) _ (place_decides o.concepts text)
-    (Decides-or (is_some (number_of Role o text)) (is_some (number_of Individual o text)) (place_decides o.roles text) (place_decides o.individuals text))
-
--- ---- a declaration
+use Rattle.dl_syntax.proofs.Numbers.{declared_decides}
+use Rattle.ontology_reader.specs.Adding.{declared}
 
 undeclared : (o : Declared) (text : List ℕ) → (¬ IsDeclared o text) → is_declared o text ≡ false
 undeclared o text new = go (is_declared o text) refl

@@ -1,5 +1,4 @@
 pub mod WordsRead
-pub mod Numbers
 pub mod Declared
 pub mod Declarable
 pub mod LinesAdded

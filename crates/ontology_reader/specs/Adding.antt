@@ -10,17 +10,10 @@ use Rattle.dl_syntax.specs.declared.ontology.Inclusion.{Inclusion}
 use Rattle.dl_syntax.specs.declared.ontology.Inclusion.TheVariants as inclusion
 use Rattle.dl_syntax.specs.declared.ontology.Clash.{Clash}
 use Rattle.dl_syntax.specs.declared.ontology.Clash.TheVariants as clash
-use Rattle.dl_syntax.specs.Ontology.{Declared, names_of, with_name, with_inclusion, with_clash, most_names, most_inclusions, most_clashes}
+use Rattle.dl_syntax.specs.Ontology.{Declared, names_of, number_of, is_declared, with_name, with_inclusion, with_clash, most_names, most_inclusions, most_clashes}
 use Rattle.ontology_reader.specs.declared.OntologyKind.{OntologyKind}
 use Rattle.ontology_reader.specs.declared.OntologyKind.TheVariants.{BadLine, NameTwice, Unknown, WrongKind, TooMany}
 use Rattle.ontology_reader.specs.Sayings.{RoleTerm, BasicTerm, concept, existing, Saying, nothing, declares, includes, includes_qualified, includes_roles, parts, parts_roles, has_no_form, line_says}
-
--- the number of the name of this kind, in order of declaration
-abbrev pub number_of : Kind → Declared → List ℕ → Option ℕ
-number_of kind o text = position (λ known. bytes_eq text known) (names_of kind o)
-
-abbrev pub is_declared : Declared → List ℕ → Bool
-is_declared o text = is_some (number_of Concept o text) || (is_some (number_of Role o text) || is_some (number_of Individual o text))
 
 infixl 10 ◌>>=◌
 abbrev pub ◌>>=◌ : {A B : Type 0} → Result A OntologyKind → (A → Result B OntologyKind) → Result B OntologyKind

@@ -2,7 +2,7 @@ ghost use Rattle.std.specs.Prelude.{◌≡◌, ◌<◌, length, IfOk};
 ghost use Rattle.dl_syntax.specs.Names.{IsDeclarable};
 ghost use Rattle.dl_syntax.specs.Declaring.{IsDeclaredRole, IsDeclaredBasic, IsDeclaredInclusion, IsDeclaredClash};
 ghost use Rattle.dl_syntax.specs.Ontology.{names_of};
-ghost use Rattle.ontology_reader.specs.Adding.{number_of, is_declared, resolved, role_of, basic_of, declared, included, parted, added};
+ghost use Rattle.ontology_reader.specs.Adding.{resolved, role_of, basic_of, declared, included, parted, added};
 ghost use Rattle.ontology_reader.specs.Answers.{Gives, Changes, IsDeclarableSaying};
 ghost use Rattle.ontology_reader.specs.Views.{role_seen, basic_seen, saying_seen};
 
@@ -19,31 +19,15 @@ pub(crate) enum LineFault {
     Memory,
 }
 
-/// The number of the name of this kind.
-fn number_of(ontology: &Ontology, kind: Kind, text: &[u8]) -> Option<u32>
-    ensures { result ≡ number_of kind ontology.now text.now }
-{
-    let _ = ontology.count(kind);
-    ontology.find(kind, text)
-}
-
-fn is_declared(ontology: &Ontology, text: &[u8]) -> bool
-    ensures { result ≡ is_declared ontology.now text.now }
-{
-    number_of(ontology, Kind::Concept, text).is_some()
-        || number_of(ontology, Kind::Role, text).is_some()
-        || number_of(ontology, Kind::Individual, text).is_some()
-}
-
 /// The number of a name that is to be of this kind.
 fn resolved(ontology: &Ontology, kind: Kind, text: &[u8]) -> Result<u32, LineFault>
     ensures given { Gives result (resolved ontology.now kind text.now) (λ number. number) }
     ensures known { IfOk result (λ number. number < length (names_of kind ontology.now)) }
 {
-    if let Some(number) = number_of(ontology, kind, text) {
+    if let Some(number) = ontology.find(kind, text) {
         return Ok(number);
     }
-    if is_declared(ontology, text) {
+    if ontology.is_declared(text) {
         return Err(LineFault::Kind(OntologyKind::WrongKind));
     }
     Err(LineFault::Kind(OntologyKind::Unknown))

@@ -12,10 +12,10 @@ use Rattle.dl_syntax.specs.declared.facts.Fact.{Fact}
 use Rattle.dl_syntax.specs.declared.facts.Fact.TheVariants as fact
 use Rattle.dl_syntax.specs.Facts.{HasNoNull}
 use Rattle.dl_syntax.specs.Snapshots.{IsSnapshot}
-use Rattle.dl_syntax.specs.Ontology.{Declared}
+use Rattle.dl_syntax.specs.Ontology.{Declared, number_of}
 use Rattle.dl_syntax.proofs.AllByCons.{Contains-none, Contains-cons_cases, AllPairs-nil, AllPairs-push}
 use Rattle.snapshot_reader.specs.Written.{Written, unary, binary}
-use Rattle.snapshot_reader.specs.Said.{number_of, first_unknown, first_misused, first_undeclared, most_facts, fact_of, same_fact, with_fact, distinct, facts_say, refused, says, unknown, wrong_kind, undeclared, too_many_facts, ◌>>=◌}
+use Rattle.snapshot_reader.specs.Said.{first_unknown, first_misused, first_undeclared, most_facts, fact_of, same_fact, with_fact, distinct, facts_say, refused, says, unknown, wrong_kind, undeclared, too_many_facts, ◌>>=◌}
 use Rattle.snapshot_reader.proofs.DistinctFacts.{fact_decides}
 
 -- ---- the first cause

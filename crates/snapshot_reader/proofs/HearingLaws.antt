@@ -11,11 +11,11 @@ use Rattle.dl_syntax.specs.declared.names.Kind.TheVariants.{Concept, Role, Indiv
 use Rattle.dl_syntax.specs.declared.facts.Element.TheVariants.{Ind}
 use Rattle.dl_syntax.specs.declared.facts.Fact.{Fact}
 use Rattle.dl_syntax.specs.declared.facts.Fact.TheVariants as fact
-use Rattle.dl_syntax.specs.Ontology.{Declared}
+use Rattle.dl_syntax.specs.Ontology.{Declared, number_of, is_declared}
 use Rattle.snapshot_reader.specs.declared.hearing.Heard.{Heard}
 use Rattle.snapshot_reader.specs.declared.hearing.Blamed.{Blamed}
 use Rattle.snapshot_reader.specs.Written.{Written, unary, binary, predicate, arguments}
-use Rattle.snapshot_reader.specs.Said.{number_of, is_name_of, is_declared, is_fitting, first_unknown, first_misused, first_undeclared, fact_of, ◌>>=◌}
+use Rattle.snapshot_reader.specs.Said.{is_name_of, is_fitting, first_unknown, first_misused, first_undeclared, fact_of, ◌>>=◌}
 use Rattle.snapshot_reader.specs.Cursor.{name_seen}
 use Rattle.snapshot_reader.specs.Hearing.{Hears}
 
@@ -37,7 +37,7 @@ binary_known (Some r) None j f is = absurd cc
 binary_known (Some r) (Some i) None f is = absurd cc
 binary_known (Some r) (Some i) (Some j) f is = (refl, refl, refl)
 
-second_of : (a b c : Bool) → b ≡ true → (a || b || c) ≡ true
+second_of : (a b c : Bool) → b ≡ true → (a || (b || c)) ≡ true
 second_of true b c h = refl
 second_of false b c h = rw h refl
 

@@ -1,6 +1,4 @@
 pub mod FactsWritten
-pub mod Numbers
-pub mod DeclaredNames
 pub mod DistinctFacts
 pub mod HearingLaws
 pub mod FactsSaid

@@ -17,11 +17,11 @@ use Rattle.text_scan.specs.Spelling.{IsName as IsNameToken}
 use Rattle.text_scan.proofs.Spellings.{are_spelled}
 use Rattle.dl_syntax.specs.declared.names.Kind.TheVariants.{Individual}
 use Rattle.dl_syntax.specs.Names.{IsName}
-use Rattle.dl_syntax.specs.Ontology.{Declared}
+use Rattle.dl_syntax.specs.Ontology.{Declared, is_declared}
 use Rattle.snapshot_reader.specs.declared.Form.{Form}
 use Rattle.snapshot_reader.specs.declared.Form.TheVariants.{Text, Json}
 use Rattle.snapshot_reader.specs.Written.{Written, unary, binary, predicate, arguments, Line, blank, malformed, writes, Symbol, token, at_fault, symbol, last_symbol, symbols, facts_written, symbols_write, is_name, name_in, fact_of_items, fact_in, facts_in, facts_of, json_writes, line_writes, ◌>>=◌}
-use Rattle.snapshot_reader.specs.Said.{is_name_of, is_declared, is_fitting, first_unknown, first_misused, first_undeclared, most_facts, Cause, unknown, wrong_kind, undeclared, too_many_facts, is_malformed, cause_of, fact_of, distinct, refused, says, facts_say, line_says, said}
+use Rattle.snapshot_reader.specs.Said.{is_name_of, is_fitting, first_unknown, first_misused, first_undeclared, most_facts, Cause, unknown, wrong_kind, undeclared, too_many_facts, is_malformed, cause_of, fact_of, distinct, refused, says, facts_say, line_says, said}
 use Rattle.snapshot_reader.specs.Laws.{CauseIsSpelled, RefusesNames}
 use Rattle.snapshot_reader.proofs.JsonFacts.{name_decides}
 

@@ -12,9 +12,9 @@ use Rattle.dl_syntax.specs.declared.facts.Element.TheVariants.{Ind}
 use Rattle.dl_syntax.specs.declared.facts.Fact.{Fact}
 use Rattle.dl_syntax.specs.declared.facts.Fact.TheVariants as fact
 use Rattle.dl_syntax.specs.Snapshots.{IsSnapshot}
-use Rattle.dl_syntax.specs.Ontology.{Declared, names_of}
+use Rattle.dl_syntax.specs.Ontology.{Declared, names_of, number_of}
 use Rattle.snapshot_reader.specs.Written.{Written, unary, binary, Line, blank, malformed, writes, line_writes}
-use Rattle.snapshot_reader.specs.Said.{◌>>=◌, number_of, individual_of, fact_of, same_fact, with_fact, distinct, Cause, refused, says, cause_of, facts_say, line_says, said}
+use Rattle.snapshot_reader.specs.Said.{◌>>=◌, individual_of, fact_of, same_fact, with_fact, distinct, Cause, refused, says, cause_of, facts_say, line_says, said}
 use Rattle.snapshot_reader.specs.Laws.{IsDeclaredIndividual, IsDeclared, SaidAreDeclared, SaidAreDistinct}
 use Rattle.snapshot_reader.proofs.FactsSaid.{facts_free, distinct_sound}
 

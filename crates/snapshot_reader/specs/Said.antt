@@ -9,14 +9,10 @@ use Rattle.dl_syntax.specs.declared.facts.Element.{Element}
 use Rattle.dl_syntax.specs.declared.facts.Element.TheVariants.{Ind, Null}
 use Rattle.dl_syntax.specs.declared.facts.Fact.{Fact}
 use Rattle.dl_syntax.specs.declared.facts.Fact.TheVariants as fact
-use Rattle.dl_syntax.specs.Ontology.{Declared, names_of}
+use Rattle.dl_syntax.specs.Ontology.{Declared, number_of, is_declared}
 use Rattle.snapshot_reader.specs.declared.Form.{Form}
 use Rattle.snapshot_reader.specs.Written.{Written, unary, binary, predicate, arguments, Line, blank, malformed, writes, line_writes}
 pub use Rattle.snapshot_reader.specs.Written.{◌>>=◌}
-
--- the number of the name of this kind, in order of declaration
-abbrev pub number_of : Kind → Declared → List ℕ → Option ℕ
-number_of kind o text = position (λ known. bytes_eq text known) (names_of kind o)
 
 abbrev pub is_name_of : Kind → Declared → List ℕ → Bool
 is_name_of kind o text = is_some (number_of kind o text)
@@ -30,9 +26,6 @@ pub data Cause : Type 0 where
   wrong_kind : List ℕ → Cause
   undeclared : List ℕ → Cause
   too_many_facts : Cause
-
-abbrev pub is_declared : Declared → List ℕ → Bool
-is_declared o text = is_name_of Concept o text || is_name_of Role o text || is_name_of Individual o text
 
 -- a concept has one argument, and a role has two
 abbrev pub is_fitting : Declared → Written → Bool

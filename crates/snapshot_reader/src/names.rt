@@ -1,32 +1,15 @@
 ghost use Rattle.std.specs.Prelude.{◌≡◌, ◌∷◌, [], find, not};
 ghost use Rattle.dl_syntax.specs.declared.names.Kind.TheVariants.{Individual};
-ghost use Rattle.snapshot_reader.specs.Said.{number_of, is_name_of, is_declared, is_fitting, first_unknown, first_misused, first_undeclared, individual_of, fact_of};
+ghost use Rattle.snapshot_reader.specs.Said.{is_name_of, is_fitting, first_unknown, first_misused, first_undeclared, individual_of, fact_of};
 ghost use Rattle.snapshot_reader.specs.Cursor.{written_seen, name_seen};
 
 use crate::facts::Written;
 use dl_syntax::{ConceptId, Element, Fact, IndId, Kind, Ontology, RoleId};
 
-/// The number of the name of this kind.
-#[inline]
-fn number_of(ontology: &Ontology, kind: Kind, text: &[u8]) -> Option<u32>
-    ensures { result ≡ number_of kind ontology.now text.now }
-{
-    let _ = ontology.count(kind);
-    ontology.find(kind, text)
-}
-
 fn is_name_of(ontology: &Ontology, kind: Kind, text: &[u8]) -> bool
     ensures { result ≡ is_name_of kind ontology.now text.now }
 {
-    number_of(ontology, kind, text).is_some()
-}
-
-fn is_declared(ontology: &Ontology, text: &[u8]) -> bool
-    ensures { result ≡ is_declared ontology.now text.now }
-{
-    is_name_of(ontology, Kind::Concept, text)
-        || is_name_of(ontology, Kind::Role, text)
-        || is_name_of(ontology, Kind::Individual, text)
+    ontology.find(kind, text).is_some()
 }
 
 /// The individual of this name.
@@ -34,7 +17,7 @@ fn is_declared(ontology: &Ontology, text: &[u8]) -> bool
 fn individual_of(ontology: &Ontology, name: &[u8]) -> Option<Element>
     ensures { result ≡ individual_of ontology.now name.now }
 {
-    match number_of(ontology, Kind::Individual, name) {
+    match ontology.find(Kind::Individual, name) {
         Some(number) => Some(Element::Ind(IndId(number))),
         None => None,
     }
@@ -47,12 +30,12 @@ pub(crate) fn fact_of(ontology: &Ontology, written: &Written<'_>) -> Option<Fact
 {
     match written {
         Written::Unary(predicate, argument) => {
-            let concept = number_of(ontology, Kind::Concept, predicate)?;
+            let concept = ontology.find(Kind::Concept, predicate)?;
             let element = individual_of(ontology, argument)?;
             Some(Fact::Concept(ConceptId(concept), element))
         }
         Written::Binary(predicate, first, second) => {
-            let role = number_of(ontology, Kind::Role, predicate)?;
+            let role = ontology.find(Kind::Role, predicate)?;
             let first = individual_of(ontology, first)?;
             let second = individual_of(ontology, second)?;
             Some(Fact::Role(RoleId(role), first, second))
@@ -68,7 +51,7 @@ pub(crate) fn unknown<'a>(ontology: &Ontology, written: &Written<'a>) -> Option<
         Written::Unary(predicate, _) => *predicate,
         Written::Binary(predicate, _, _) => *predicate,
     };
-    if is_declared(ontology, predicate) {
+    if ontology.is_declared(predicate) {
         None
     } else {
         Some(predicate)

@@ -1,5 +1,3 @@
-pub mod NumberLemmas
-pub mod DeclaredLemmas
 pub mod ListMaps
 pub mod BuiltStates
 pub mod WholeTables

@@ -1,7 +1,7 @@
 -- Reading a whole text.
 use Rattle.std.proofs.Common.{◌≡◌, ℕ, ◌≤◌, Bool, true, false, cond, List, [], ◌∷◌, ◌++◌, length, Option, Some, None, refl, sym, ap, subst, ◌∙◌, append_assoc, arith}
 use Rattle.std.specs.Prelude.{IfSome}
-use Rattle.dl_syntax.specs.Ontology.{Declared}
+use Rattle.dl_syntax.specs.Ontology.{Declared, number_of, is_declared}
 use Rattle.tcq_grammar.specs.Symbols.{Symbol}
 use Rattle.tcq_grammar.specs.Symbols as s
 use Rattle.tcq_grammar.specs.Grammar.{Tree, File, Empty}
@@ -31,7 +31,7 @@ use Rattle.tcq_reader.specs.declared.faults.QueryKind.{QueryKind}
 use Rattle.tcq_reader.specs.declared.faults.QueryKind.TheVariants as kinds
 use Rattle.tcq_reader.specs.declared.faults.Stop.{Stop}
 use Rattle.tcq_reader.specs.declared.faults.Stop.TheVariants as stop
-use Rattle.tcq_reader.specs.Names.{number_of, is_declared, verdict_of_number, verdict_of_individual}
+use Rattle.tcq_reader.specs.Names.{verdict_of_number, verdict_of_individual}
 use Rattle.tcq_reader.specs.Leaves.{known_as}
 use Rattle.tcq_reader.specs.Meaning.{queries_said, query_said}
 use Rattle.tcq_reader.specs.Faults.{has_too_many_nodes, kind_ahead, name_fault, variable_fault, predicate_fault, term_fault, whole_fault, end_fault, fault_at, fault_or, first_fault}

@@ -11,7 +11,7 @@ use Rattle.dl_syntax.specs.declared.names.Kind.{Kind}
 use Rattle.dl_syntax.specs.declared.names.Kind.TheVariants.{Concept, Role, Individual}
 use Rattle.dl_syntax.specs.declared.queries.Atom.{Atom}
 use Rattle.dl_syntax.specs.declared.queries.Cq.{Cq}
-use Rattle.dl_syntax.specs.Ontology.{Declared, names_of}
+use Rattle.dl_syntax.specs.Ontology.{Declared, names_of, number_of, is_declared}
 use Rattle.dl_syntax.specs.Declaring.{IsDeclaredAtom}
 use Rattle.dl_syntax.proofs.AllByCons.{Contains-first, All-back}
 use Rattle.tcq_syntax.specs.declared.nodes.Node.{Node}
@@ -36,7 +36,7 @@ use Rattle.tcq_grammar.proofs.Sound.{if_some, run_none}
 use Rattle.tcq_grammar.proofs.Complete.{file_read}
 use Rattle.tcq_reader.specs.declared.faults.QueryKind.{QueryKind}
 use Rattle.tcq_reader.specs.declared.faults.QueryKind.TheVariants.{TooMany}
-use Rattle.tcq_reader.specs.Names.{number_of, is_declared, verdict_of_number, verdict_of_individual}
+use Rattle.tcq_reader.specs.Names.{verdict_of_number, verdict_of_individual}
 use Rattle.tcq_reader.specs.Leaves.{Draft, blank, seen_with, term_said, with_atom, with_atoms, leaf_said, predicate_verdict}
 use Rattle.tcq_reader.specs.Meaning.{unary_node, timed_node, last_place, with_node, emit, table_said, query_said, queries_said}
 use Rattle.tcq_reader.specs.Faults.{end_verdict, has_too_many_nodes, kind_ahead, fault_or, fault_at, whole_fault, first_fault}

@@ -3,7 +3,7 @@ use Rattle.std.specs.Prelude.{◌≡◌, ℕ, ◌+◌, List, [], ◌∷◌, ◌+
 use Rattle.dl_syntax.specs.declared.names.Kind.{Kind}
 use Rattle.dl_syntax.specs.declared.names.Kind.TheVariants.{Concept, Role}
 use Rattle.dl_syntax.specs.declared.queries.Term.{Term}
-use Rattle.dl_syntax.specs.Ontology.{Declared}
+use Rattle.dl_syntax.specs.Ontology.{Declared, number_of}
 use Rattle.text_scan.specs.declared.Token.{Token}
 use Rattle.tcq_grammar.specs.Symbols.{Symbol, symbol}
 use Rattle.tcq_grammar.specs.Symbols as s
@@ -13,7 +13,6 @@ use Rattle.tcq_reader.specs.declared.faults.QueryKind.{QueryKind}
 use Rattle.tcq_reader.specs.declared.faults.Stop.{Stop}
 use Rattle.tcq_reader.specs.declared.faults.Stop.TheVariants as stop
 use Rattle.tcq_reader.specs.declared.leaf.LeafBuilder.{LeafBuilder}
-use Rattle.tcq_reader.specs.Names.{number_of}
 use Rattle.tcq_reader.specs.Leaves.{Draft, seen_with, term_said, with_one, with_two, term_verdict, predicate_verdict}
 use Rattle.tcq_reader.specs.Faults.{variable_verdict}
 

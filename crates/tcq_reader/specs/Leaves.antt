@@ -9,11 +9,11 @@ use Rattle.dl_syntax.specs.declared.queries.Term.TheVariants as term
 use Rattle.dl_syntax.specs.declared.queries.Atom.{Atom}
 use Rattle.dl_syntax.specs.declared.queries.Atom.TheVariants as atom
 use Rattle.dl_syntax.specs.declared.queries.Cq.{Cq}
-use Rattle.dl_syntax.specs.Ontology.{Declared}
+use Rattle.dl_syntax.specs.Ontology.{Declared, number_of}
 use Rattle.tcq_grammar.specs.Grammar as g
 use Rattle.tcq_reader.specs.declared.faults.QueryKind.{QueryKind}
 use Rattle.tcq_reader.specs.declared.faults.QueryKind.TheVariants.{TooMany}
-use Rattle.tcq_reader.specs.Names.{number_of, verdict_of_name, verdict_of_individual}
+use Rattle.tcq_reader.specs.Names.{verdict_of_name, verdict_of_individual}
 
 -- the atoms of a leaf so far: the number of answer variables, the variables by their numbers, first the answer
 -- variables and then the others in the order in which they first occur, and the body

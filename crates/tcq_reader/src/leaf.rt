@@ -5,7 +5,6 @@ ghost use Rattle.tcq_reader.specs.Drafting.{draft, marked, with_seen, TellsPredi
 ghost use Rattle.tcq_grammar.specs.Symbols.{symbol};
 
 use crate::faults::{QueryKind, Stop};
-use crate::names::{is_declared, number_of};
 use dl_syntax::{Atom, ConceptId, Cq, IndId, Items, Kind, Memory, Ontology, RoleId, Term};
 use std::alloc::Global;
 use text_scan::{Token, TokenKind};
@@ -72,10 +71,10 @@ fn predicate(ontology: &Ontology, kind: Kind, before: usize, word: &Token<'_>) -
     if before >= ATOM_LIMIT {
         return Err(Stop::At(word.start, QueryKind::TooMany));
     }
-    if let Some(number) = number_of(ontology, kind, word.text) {
+    if let Some(number) = ontology.find(kind, word.text) {
         return Ok(number);
     }
-    if is_declared(ontology, word.text) {
+    if ontology.is_declared(word.text) {
         return Err(Stop::At(word.start, QueryKind::WrongKind));
     }
     Err(Stop::At(word.start, QueryKind::Unknown))
@@ -184,7 +183,7 @@ impl<'a> LeafBuilder<'a> {
                 Err(_) => Err(Stop::Memory),
             };
         }
-        match number_of(ontology, Kind::Individual, word.text) {
+        match ontology.find(Kind::Individual, word.text) {
             Some(number) => Ok(Term::Ind(IndId(number))),
             None => Err(Stop::At(word.start, QueryKind::Undeclared)),
         }

@@ -5,7 +5,6 @@ mod builder;
 mod faults;
 pub mod laws;
 mod leaf;
-mod names;
 mod reading;
 mod table;
 
