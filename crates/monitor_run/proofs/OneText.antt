@@ -18,7 +18,7 @@ use Rattle.dl_syntax.specs.Ontology.{Declared}
 use Rattle.perfect_ref.specs.Plain.{PlainReachable, encoded}
 use Rattle.report_text.specs.Queries.{cq_text, leaf_line}
 use Rattle.monitor_run.specs.Leaves.{NamedLeaf, leaves, AreTexts, TellsLeaf, TellsLeaves, text_lines}
-use Rattle.monitor_run.specs.RewritingLaws.{OneRewriting}
+use Rattle.monitor_run.specs.ReportLaws.{OneRewriting}
 use Rattle.monitor_run.proofs.Arrangements.{arranged}
 
 abbrev Text : Type 0

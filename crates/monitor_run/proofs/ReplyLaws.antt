@@ -1,5 +1,5 @@
 -- The monitor's replies tell what the definitions tell.
-use Rattle.std.proofs.Common.{◌≡◌, ℕ, suc, Option, None, Some, Result, Ok, Err, List, [], ◌∷◌, length, refl, sym, ap, subst, append-nil}
+use Rattle.std.proofs.Common.{◌≡◌, ℕ, suc, Option, None, Some, Result, Ok, Err, List, [], ◌∷◌, ◌+◌, arith, length, refl, sym, ap, subst, append-nil}
 use Rattle.std.specs.List.{All}
 use Rattle.std.specs.Prelude.{IfOk}
 use Rattle.std.proofs.lemmas.List.Elements.{All-nil, All-cons, All-weaker}
@@ -10,7 +10,6 @@ use Rattle.report_text.specs.Names.{IsNamed, AreNamed, AreSpelled, IsSpelledCaus
 use Rattle.report_text.specs.Events.{HasSizes, AreAnswered, EventHasNames}
 use Rattle.monitor_core.specs.Answering.{AreRowsOf, AreAllAnswers}
 use Rattle.monitor_core.specs.Setting.{Setting}
-use Rattle.monitor_run.specs.Drill.{newest}
 use Rattle.dl_syntax.specs.declared.facts.Fact.{Fact}
 use Rattle.dl_syntax.specs.Ontology.{Declared}
 use Rattle.tcq_syntax.specs.Histories.{History, with_snapshot}
@@ -30,8 +29,10 @@ use Rattle.monitor_run.specs.declared.options.Options.{Options}
 use Rattle.monitor_run.specs.Outcome.{skip, refused, accepted, SaidHas}
 use Rattle.monitor_run.specs.Task.{Task, task_of}
 use Rattle.monitor_run.specs.Told.{TellsAccepted}
-use Rattle.monitor_run.specs.Replies.{AcceptsLine, HasNamesOf, IsRefusal, IsRefusedFor, told_by}
-use Rattle.monitor_run.specs.Serving.{Asked}
+use Rattle.monitor_run.specs.Drill.{Rehearsed, plain, rehearsing}
+use Rattle.monitor_run.specs.Report.{Standing, watching, bytes_of, refused_in}
+use Rattle.stream_report.specs.Told.{TellsLine}
+use Rattle.monitor_run.specs.Replies.{AcceptsLine, Replied, IsRefusal, IsRefusedFor, told_by}
 
 -- a snapshot was accepted
 pub took_snapshot : (options : Options) (old new : Monitored) (line : List ℕ) (facts : List Fact) (number : ℕ) (told : Event) (history : History) → said (setting_of old).ontology options.form line ≡ says facts → IsConsistentUnder (setting_of old).ontology facts → setting_of new ≡ setting_of old → Stands new (with_snapshot facts history) → TellsAccepted (task_of options new) (with_snapshot facts history) number (told ∷ []) → AcceptsLine options old new (text line) number (Some told) history
@@ -100,19 +101,12 @@ skipped_text options old line number history is stands = record {
   tells = record { outcome = skip; has = subst (λ (s : Said). SaidHas (setting_of old).ontology s skip) (sym is) refl; replies = (refl, refl) };
 }
 
--- one line is asked
-pub asked_line : (options : Options) (old new : Monitored) (line : StreamLine) (told : Option Event) (history : History) (number : ℕ) → AcceptsLine options old new line number told history → Asked options old new (line ∷ []) number history (told_by told)
-asked_line options old new line told history number accepts = record {
-  after = accepts.after;
-  stands = accepts.stands;
-  tells = (told_by told, [], accepts.after, accepts.tells, (refl, refl), sym (append-nil (told_by told)));
-}
-
-pub asked_long : (options : Options) (old : Monitored) (history : History) (number : ℕ) → Stands old history → Asked options old old (too_long ∷ []) number history (event.Refused number TooLong ∷ [])
-asked_long options old history number stands = record {
+-- a line that is too long was refused
+pub accepts_long : (options : Options) (old : Monitored) (history : History) (number : ℕ) → Stands old history → AcceptsLine options old old too_long number (Some (event.Refused number TooLong)) history
+accepts_long options old history number stands = record {
   after = history;
   stands = stands;
-  tells = (event.Refused number TooLong ∷ [], [], history, record { outcome = refused TooLong; has = refl; replies = (refl, refl) }, (refl, refl), refl);
+  tells = record { outcome = refused TooLong; has = refl; replies = (refl, refl) };
 }
 
 all_named : (ontology : Declared) (queries : List Tcq) (relations : List Relation) → AreRowsOf ontology queries relations → All (λ (relation : Relation). AreNamed ontology relation.rows) relations
@@ -140,6 +134,26 @@ pub refused_names : (ontology : Declared) (queries : List Tcq) (number : ℕ) (c
 refused_names ontology queries number cause told same spelled is =
     subst (EventHasNames ontology queries) (sym same) (record { answers = tt; queries_spelled = spelled; cause_spelled = is })
 
-pub newest_names : (setting : Setting) (last event : Option Event) → HasNamesOf setting last → HasNamesOf setting event → HasNamesOf setting (newest last event)
-newest_names setting last None one other = one
-newest_names setting last (Some event) one other = other
+-- what a watch replied is its step
+pub watched_line : (options : Options) (old new : Monitored) (line : StreamLine) (number count more : ℕ) (before now : List ℕ) (state : Standing) → Stands old state.history → count ≡ state.refused → ((history : History) → Stands old history → Replied options old new line number history before now more) → TellsLine (watching (task_of options old)) state (λ after. Stands new after.history × (count + more ≡ after.refused)) number line before now
+watched_line options old new line number count more before now state stands same replies =
+    let reply = replies state.history stands in
+    record {
+      told = bytes_of (task_of options old) (told_by reply.told);
+      after = record { history = reply.accepts.after; refused = state.refused + refused_in (told_by reply.told) };
+      tells = (told_by reply.told, (reply.accepts.tells, refl), refl);
+      stands = (reply.accepts.stands, omega (arith, same, reply.refuses));
+      gathers = reply.gathers;
+    }
+
+-- what a drill was told by an event is its step
+pub rehearsed_event : (old new : Monitored) (line : StreamLine) (number count more : ℕ) (event : Event) (gathered : List ℕ) (state : Rehearsed) → Stands old state.standing.history → count ≡ state.standing.refused → more ≡ refused_in (event ∷ []) → ((history : History) → Stands old history → AcceptsLine plain old new line number (Some event) history) → TellsLine (rehearsing (task_of plain old)) state (λ after. Stands new after.standing.history × (count + more ≡ after.standing.refused) × (event ∷ [] ≡ after.last)) number line gathered gathered
+rehearsed_event old new line number count more event gathered state stands same refuses accepts =
+    let reply = accepts state.standing.history stands in
+    record {
+      told = [];
+      after = record { standing = record { history = reply.after; refused = state.standing.refused + refused_in (event ∷ []) }; last = event ∷ [] };
+      tells = (refl, (event ∷ [], (reply.tells, refl), refl));
+      stands = (reply.stands, omega (arith, same, refuses), refl);
+      gathers = sym (append-nil gathered);
+    }

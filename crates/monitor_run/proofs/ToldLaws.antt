@@ -1,5 +1,5 @@
 -- The laws of what is told of lines.
-use Rattle.std.proofs.Common.{◌≡◌, ℕ, zero, suc, ◌+◌, ◌<◌, Bool, true, false, Option, None, List, [], ◌∷◌, ◌++◌, length, Some, refl, sym, ◌∙◌, ap, subst, arith, append_assoc}
+use Rattle.std.proofs.Common.{◌≡◌, ℕ, zero, suc, ◌<◌, Bool, true, false, Option, None, List, [], ◌∷◌, length, Some, refl, sym, ◌∙◌, ap, subst, arith}
 use Rattle.std.specs.Prelude.{slice_get}
 use Rattle.std.specs.List.{Contains}
 use Rattle.dl_syntax.specs.declared.facts.Fact.{Fact}
@@ -10,7 +10,7 @@ use Rattle.dl_syntax.proofs.AllByCons.{Contains-first, Contains-later}
 use Rattle.tcq_syntax.specs.Histories.{History}
 use Rattle.tcq_syntax.specs.Tcq.{Tcq}
 use Rattle.tcq_syntax.proofs.OneList.{one_answers}
-use Rattle.edge_io.specs.Lines.{Item as StreamLine, text, too_long}
+use Rattle.edge_io.specs.Lines.{text, too_long}
 use Rattle.snapshot_reader.specs.Said.{Said, nothing, says, said}
 use Rattle.snapshot_reader.specs.Said.{refused as is_refused}
 use Rattle.report_text.specs.declared.item.Cause.{Cause}
@@ -28,9 +28,9 @@ use Rattle.std.proofs.lemmas.List.Sorted.{sum_by-IsPermutation}
 use Rattle.monitor_core.specs.Standing.{count_of}
 use Rattle.monitor_run.specs.Outcome.{Outcome, skip, refused, accepted, SnapshotHas, SaidHas}
 use Rattle.monitor_run.specs.Task.{Task}
-use Rattle.monitor_run.specs.Told.{AreSizes, AreAskedSizes, TellsAccepted, Replies, TellsLine, Told}
+use Rattle.monitor_run.specs.Told.{AreSizes, AreAskedSizes, TellsAccepted, Replies}
 use Rattle.monitor_run.proofs.Arrangements.{arranged}
-use Rattle.monitor_run.specs.ReportLaws.{OneOutcome, OneTold, ToldJoined, Parts, ToldParts}
+use Rattle.monitor_run.specs.ReportLaws.{OneOutcome, OneLine}
 
 listed_contained : (xs : List Clash) (place : ℕ) (c : Clash) → slice_get xs place ≡ Some c → Contains xs c
 listed_contained [] zero c is = cc
@@ -139,44 +139,7 @@ one_replies task history line (accepted snapshot) one other after later p q =
     let same : after ≡ later = p.0 ∙ sym q.0 in
     (one_accepted task later line one other (subst (λ (h : History). TellsAccepted task h line one) same p.1) q.1, same)
 
-one_line : (task : Task) (history : History) (line : ℕ) (item : StreamLine) (one other : List Event) (after later : History) → TellsLine task history line item one after → TellsLine task history line item other later → (one ≡ other) × (after ≡ later)
+pub one_line : OneLine
 one_line task history line item one other after later p q =
     let same : p.outcome ≡ q.outcome = one_outcome task.setting.ontology task.options.form item p.outcome q.outcome p.has q.has in
     one_replies task history line q.outcome one other after later (subst (λ (o : Outcome). Replies task history line o one after) same p.replies) q.replies
-
-pub one_told : OneTold
-one_told task [] line history one other after later p q = (p.0 ∙ sym q.0, p.1 ∙ sym q.1)
-one_told task (item ∷ items) line history one other after later p q =
-    let first : (p.0 ≡ q.0) × (p.2 ≡ q.2) = one_line task history line item p.0 q.0 p.2 q.2 p.3 q.3 in
-    let there : Told task items (line + 1) q.2 p.1 after = subst (λ (h : History). Told task items (line + 1) h p.1 after) first.1 p.4 in
-    let rest : (p.1 ≡ q.1) × (after ≡ later) = one_told task items (line + 1) q.2 p.1 q.1 after later there q.4 in (
-      p.5 ∙ (ap (λ (l : List Event). l ++ p.1) first.0 ∙ (ap (λ (l : List Event). q.0 ++ l) rest.0 ∙ sym q.5)),
-      rest.1,
-    )
-
-pub told_joined : ToldJoined
-told_joined task [] then line history next after told rest p q =
-    let number : line + 0 ≡ line = omega arith in
-    let there : Told task then line history rest after = subst (λ n. Told task then n history rest after) number (subst (λ h. Told task then (line + 0) h rest after) p.1 q) in
-    subst (λ l. Told task then line history (l ++ rest) after) (sym p.0) there
-told_joined task (item ∷ items) then line history next after told rest p q =
-    let number : line + suc (length items) ≡ (line + 1) + length items = omega arith in
-    let later : Told task (items ++ then) (line + 1) p.2 (p.1 ++ rest) after =
-    told_joined task items then (line + 1) p.2 next after p.1 rest p.4 (subst (λ n. Told task then n next rest after) number q) in
-    (p.0, p.1 ++ rest, p.2, p.3, later, ap (λ l. l ++ rest) p.5 ∙ append_assoc p.0 p.1 rest)
-
-pub told_parts : ToldParts
-told_parts task [] then line history after told p =
-    let number : line ≡ line + 0 = omega arith in
-    record { front = []; rest = told; next = history; tells_front = (refl, refl); tells_rest = subst (λ n. Told task then n history told after) number p; joined = refl }
-told_parts task (item ∷ items) then line history after told p =
-    let parts : Parts task items then (line + 1) p.2 after p.1 = told_parts task items then (line + 1) p.2 after p.1 p.4 in
-    let number : (line + 1) + length items ≡ line + suc (length items) = omega arith in
-    record {
-      front = p.0 ++ parts.front;
-      rest = parts.rest;
-      next = parts.next;
-      tells_front = (p.0, parts.front, p.2, p.3, parts.tells_front, refl);
-      tells_rest = subst (λ n. Told task then n parts.next parts.rest after) number parts.tells_rest;
-      joined = p.5 ∙ (ap (λ l. p.0 ++ l) parts.joined ∙ sym (append_assoc p.0 parts.front parts.rest));
-    }

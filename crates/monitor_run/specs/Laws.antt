@@ -1,34 +1,95 @@
 -- Laws of runs.
 use Rattle.std.specs.Prelude.{◌≡◌, ◌⊎◌, ℕ, ◌≤◌, ◌^◌, List, Some, length}
-use Rattle.std.specs.declared.option.Option.{Option}
 use Rattle.edge_io.specs.Causes.{Rose}
 use Rattle.edge_io.specs.Held.{Store}
-use Rattle.monitor_run.specs.declared.ending.Status.{Status}
-use Rattle.monitor_run.specs.declared.ending.Status.TheVariants.{Done, Memory}
+use Rattle.command_words.specs.Meanings.{Watching, watch, rewrite, drill, meaning_of_words}
 use Rattle.monitor_core.specs.Setting.{Setting}
-use Rattle.command_words.specs.Meanings.{Watching, watch, meaning_of_words}
-use Rattle.monitor_run.specs.Sources.{Opens}
-use Rattle.monitor_run.specs.Running.{Outside, Ran}
+use Rattle.stream_report.specs.Outside.{SinkTold, Outside}
+use Rattle.monitor_run.specs.declared.ending.Status.{Status}
+use Rattle.monitor_run.specs.declared.ending.Status.TheVariants.{Done, Usage, BadOntology, BadQueries, Memory}
+use Rattle.monitor_run.specs.Jobs.{FileNames}
+use Rattle.monitor_run.specs.Running.{MadeSay, Ran}
+use Rattle.monitor_run.specs.Sources.{nothing_more, Opens, FilesSay}
+
+-- the run ended well, or found no memory
+abbrev pub IsDone : Status → Type 0
+IsDone status = (status ≡ Done) ⊎ (status ≡ Memory)
 
 -- the files of these names have no fault and reach no more than may be, and neither they nor the output had a fault
-pub record HasGoodFiles (ontology_name queries_name : List ℕ) (before now : Outside) : Type 0 where
+pub record HasGoodFiles (names : FileNames) (before now : Outside) : Type 0 where
   pub files : Store
-  pub held : before.held ≡ Some files
+  pub held : before.files.held ≡ Some files
   pub setting : Setting
-  pub opens : Opens before.held ontology_name queries_name setting
-  pub no_file_fault : ¬ Rose before.file_faults now.file_faults
-  pub no_write_fault : ¬ Rose before.write_faults now.write_faults
+  pub opens : Opens nothing_more (FilesSay before.files.held names) setting
+  pub no_file_fault : ¬ Rose before.files.faults now.files.faults
+  pub no_write_fault : ¬ Rose before.ports.out.faults now.ports.out.faults
 
 -- the words are of a watch of such files, the stream is within its limit, and its count did not rise either
 pub record IsGood (words : List (List ℕ)) (before now : Outside) : Type 0 where
   pub asked : Watching
   pub words_mean : meaning_of_words words ≡ Some (watch asked)
-  pub files : HasGoodFiles asked.ontology asked.queries before now
+  pub files : HasGoodFiles (record { ontology = asked.ontology; queries = asked.queries }) before now
   pub stream : List ℕ
-  pub left : before.left ≡ Some stream
+  pub left : before.ports.input.left ≡ Some stream
   pub short : length stream ≤ 2 ^ 40
-  pub no_read_fault : ¬ Rose before.read_faults now.read_faults
+  pub no_read_fault : ¬ Rose before.ports.input.faults now.ports.input.faults
 
--- where nothing fails a run is done, but for want of memory
+-- the words are of a rewriting by such files
+pub record IsGoodRewriting (words : List (List ℕ)) (before now : Outside) : Type 0 where
+  pub names : FileNames
+  pub words_mean : meaning_of_words words ≡ Some (rewrite names.ontology names.queries)
+  pub files : HasGoodFiles names before now
+
+-- the words are of a drill, what it makes reaches no more than may be, and the output had no fault
+pub record IsGoodDrill (words : List (List ℕ)) (before now : Outside) : Type 0 where
+  pub seed : ℕ
+  pub count : ℕ
+  pub words_mean : meaning_of_words words ≡ Some (drill seed count)
+  pub setting : Setting
+  pub opens : Opens nothing_more MadeSay setting
+  pub no_write_fault : ¬ Rose before.ports.out.faults now.ports.out.faults
+
+-- where nothing fails a watch is done, but for want of memory
 abbrev pub Completeness : Type 0
-Completeness = (status : Status) (words : List (List ℕ)) (before now : Outside) (err_before err_now : Option (List ℕ)) (err_faults_before err_faults_now : ℕ) → Ran status words before now err_before err_now err_faults_before err_faults_now → IsGood words before now → (status ≡ Done) ⊎ (status ≡ Memory)
+Completeness =
+    (status : Status) (words : List (List ℕ)) (before now : Outside) (err_before err_now : SinkTold) →
+    Ran status words before now err_before err_now → IsGood words before now → IsDone status
+
+-- so is a rewriting
+abbrev pub RewritingCompleteness : Type 0
+RewritingCompleteness =
+    (status : Status) (words : List (List ℕ)) (before now : Outside) (err_before err_now : SinkTold) →
+    Ran status words before now err_before err_now → IsGoodRewriting words before now → IsDone status
+
+-- and a drill
+abbrev pub DrillCompleteness : Type 0
+DrillCompleteness =
+    (status : Status) (words : List (List ℕ)) (before now : Outside) (err_before err_now : SinkTold) →
+    Ran status words before now err_before err_now → IsGoodDrill words before now → IsDone status
+
+-- a drill leaves the files and the input as they were
+abbrev pub DrillLeaves : Type 0
+DrillLeaves =
+    (status : Status) (words : List (List ℕ)) (before now : Outside) (err_before err_now : SinkTold) (seed count : ℕ) →
+    Ran status words before now err_before err_now → meaning_of_words words ≡ Some (drill seed count) →
+    (now.files ≡ before.files) × (now.ports.input ≡ before.ports.input)
+
+-- a rewriting leaves the input as it was
+abbrev pub RewritingLeaves : Type 0
+RewritingLeaves =
+    (status : Status) (words : List (List ℕ)) (before now : Outside) (err_before err_now : SinkTold) (ontology queries : List ℕ) →
+    Ran status words before now err_before err_now → meaning_of_words words ≡ Some (rewrite ontology queries) →
+    now.ports.input ≡ before.ports.input
+
+-- words of no command leave everything as it was
+abbrev pub UsageLeaves : Type 0
+UsageLeaves =
+    (words : List (List ℕ)) (before now : Outside) (err_before err_now : SinkTold) →
+    Ran Usage words before now err_before err_now → now ≡ before
+
+-- a run whose sources are refused leaves the files, the input and the output as they were
+abbrev pub RefusalLeaves : Type 0
+RefusalLeaves =
+    (status : Status) (words : List (List ℕ)) (before now : Outside) (err_before err_now : SinkTold) →
+    Ran status words before now err_before err_now → (status ≡ BadOntology) ⊎ (status ≡ BadQueries) →
+    (now.files.held ≡ before.files.held) × (now.ports.input ≡ before.ports.input) × (now.ports.out ≡ before.ports.out)

@@ -6,3 +6,7 @@ use Rattle.edge_io.specs.Held.{Store}
 abbrev pub HasText : Option Store → List ℕ → List ℕ → Type 0
 HasText None name text = Unit {0}
 HasText (Some files) name text = files name ≡ Some text
+
+-- the text is this one
+abbrev pub Is : List ℕ → List ℕ → Type 0
+Is wanted text = text ≡ wanted

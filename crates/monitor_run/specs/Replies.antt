@@ -1,5 +1,5 @@
 -- What the monitor replies to a line.
-use Rattle.std.specs.Prelude.{◌≡◌, ℕ, Option, None, Some, List, [], ◌∷◌}
+use Rattle.std.specs.Prelude.{◌≡◌, ℕ, Option, None, Some, List, [], ◌∷◌, ◌++◌}
 use Rattle.tcq_syntax.specs.Histories.{History}
 use Rattle.edge_io.specs.Lines.{Item as StreamLine}
 use Rattle.report_text.specs.declared.item.Cause.{Cause}
@@ -15,6 +15,7 @@ use Rattle.monitor_core.specs.Setting.{Setting}
 use Rattle.monitor_core.specs.Standing.{Stands}
 use Rattle.monitor_run.specs.declared.options.Options.{Options}
 use Rattle.monitor_run.specs.Outcome.{cause_of}
+use Rattle.monitor_run.specs.Report.{bytes_of, refused_in}
 use Rattle.monitor_run.specs.Task.{task_of}
 use Rattle.monitor_run.specs.Told.{TellsLine}
 
@@ -44,3 +45,10 @@ pub record AcceptsLine (options : Options) (old new : Monitored) (line : StreamL
   pub after : History
   pub stands : Stands new after
   pub tells : TellsLine (task_of options old) history number line (told_by told) after
+
+-- and what is told was gathered behind the buffer's bytes, of so many refusals
+pub record Replied (options : Options) (old new : Monitored) (line : StreamLine) (number : ℕ) (history : History) (before now : List ℕ) (refused : ℕ) : Type 0 where
+  pub told : Option Event
+  pub accepts : AcceptsLine options old new line number told history
+  pub gathers : now ≡ before ++ bytes_of (task_of options old) (told_by told)
+  pub refuses : refused ≡ refused_in (told_by told)

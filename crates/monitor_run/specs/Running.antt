@@ -1,94 +1,91 @@
 -- What a run did to the objects that it was handed, by how it ended.
 use Rattle.std.specs.Prelude.{◌≡◌, ◌⊎◌, ℕ, List, None, Some}
-use Rattle.std.specs.declared.option.Option.{Option}
 use Rattle.edge_io.specs.Causes.{Rose}
-use Rattle.edge_io.specs.Held.{Store}
 use Rattle.edge_io.specs.Known.{Gains, IsFront}
-use Rattle.monitor_core.specs.Setting.{Setting}
-use Rattle.monitor_core.specs.Standing.{no_history}
-use Rattle.monitor_run.specs.declared.ending.Status.{Status}
-use Rattle.monitor_run.specs.declared.ending.Ending.{Ending}
-use Rattle.monitor_run.specs.declared.ending.Ending.TheVariants.{Done, Usage, BadOntology, TooManyRewritings, BadQueries, ReadFault, WriteFault, Memory, StreamLimit}
-use Rattle.monitor_run.specs.Ends.{status_of, line_of}
+use Rattle.stream_maker.specs.Ontology.{ontology_text}
+use Rattle.stream_maker.specs.Snapshots.{queries_text, stream_text}
 use Rattle.command_words.specs.Meanings.{Meaning, meaning_of_words}
-use Rattle.command_words.specs.Meanings as meaning
-use Rattle.monitor_run.specs.declared.options.Options.{Options}
-use Rattle.monitor_run.specs.Task.{options_of}
-use Rattle.monitor_run.specs.Watching.{Watched}
-use Rattle.monitor_run.specs.Sources.{Opens, Refuses}
-use Rattle.monitor_run.specs.Rewriting.{RewriteEnds}
-use Rattle.monitor_run.specs.Drill.{DrillEnds}
+use Rattle.monitor_core.specs.Setting.{Setting}
+use Rattle.stream_report.specs.declared.ending.Ending.{Ending}
+use Rattle.stream_report.specs.declared.ending.Ending.TheVariants.{Usage, Memory}
+use Rattle.stream_report.specs.Commands.{OpenedEnds}
+use Rattle.stream_report.specs.Ends.{StreamEnds, TextEnds}
+use Rattle.stream_report.specs.Outside.{SinkTold, Ports, Outside}
+use Rattle.monitor_run.specs.declared.ending.Refusal.{Refusal}
+use Rattle.monitor_run.specs.declared.ending.Status.{Status}
+use Rattle.monitor_run.specs.declared.jobs.Job.{Job}
+use Rattle.monitor_run.specs.declared.jobs.Job.TheVariants.{Watch, Rewrite}
+use Rattle.monitor_run.specs.Drill.{IsDrill}
+use Rattle.monitor_run.specs.Ends.{status_of, line_of}
+use Rattle.monitor_run.specs.Jobs.{FileNames, Asked, on_files, drill, asked_by}
+use Rattle.monitor_run.specs.Leaves.{IsRewriting}
+use Rattle.monitor_run.specs.Opening.{Is}
+use Rattle.monitor_run.specs.Report.{start, watching}
+use Rattle.monitor_run.specs.Sources.{Says as SourcesSay, nothing_more, Opens, OpeningFails, FilesSay, FilesUnread, TextsUnread}
 
--- what files, input and output tell, and their counts of faults
-pub record Outside : Type 0 where
-  pub held : Option Store
-  pub file_faults : ℕ
-  pub left : Option (List ℕ)
-  pub read_faults : ℕ
-  pub got : Option (List ℕ)
-  pub write_faults : ℕ
+-- how a job on the files of these names ended, which refuses so by itself and ends so by what they say
+abbrev pub FilesEnd : (Setting → Refusal → Type 0) → FileNames
+    → (Setting → Ending Refusal → Ports → Ports → Type 0)
+    → Ending Refusal → Outside → Outside → Type 0
+FilesEnd own names ends ending before now =
+    OpenedEnds (Opens own (FilesSay before.files.held names))
+    (OpeningFails own (FilesSay before.files.held names) (FilesUnread before.files now.files names))
+    ends ending before.ports now.ports
 
--- nothing was taken from the input, and nothing was written
-pub record IsUntouched (before now : Outside) : Type 0 where
-  pub left : now.left ≡ before.left
-  pub got : now.got ≡ before.got
+-- no file changed
+abbrev pub FilesStay : Outside → Outside → Type 0
+FilesStay before now = now.files.held ≡ before.files.held
 
--- both files were read, and the stream was watched
-pub record WatchedFiles (ending : Ending) (options : Options) (ontology queries : List ℕ) (before now : Outside) : Type 0 where
-  pub setting : Setting
-  pub opens : Opens before.held ontology queries setting
-  pub watched : Watched ending (record { setting = setting; options = options }) no_history before.left now.left before.got now.got
+-- how each job ended
+abbrev pub JobEnds : Job → FileNames → Ending Refusal → Outside → Outside → Type 0
+JobEnds (Watch options) names ending before now =
+    FilesStay before now
+    × FilesEnd nothing_more names
+    (λ setting. StreamEnds (watching (record { setting = setting; options = options })) start)
+    ending before now
+JobEnds Rewrite names ending before now =
+    FilesStay before now
+    × FilesEnd nothing_more names (λ setting. TextEnds (IsRewriting setting)) ending before now
 
--- the opening failed
-pub record RefusedFiles (ending : Ending) (ontology queries : List ℕ) (before now : Outside) : Type 0 where
-  pub refuses : Refuses before.held before.file_faults now.file_faults ontology queries ending
-  pub untouched : IsUntouched before now
+-- what the ontology and the queries say that a drill makes
+abbrev pub MadeSay : Setting → Type 0
+MadeSay setting = SourcesSay (Is ontology_text) (Is queries_text) setting
 
--- how a watch by the files of these names ended
-abbrev pub FilesEnd : Ending → Options → List ℕ → List ℕ → Outside → Outside → Type 0
-FilesEnd Done options ontology queries before now = WatchedFiles Done options ontology queries before now
-FilesEnd Usage options ontology queries before now = ⊥
-FilesEnd (BadOntology line kind) options ontology queries before now = RefusedFiles (BadOntology line kind) ontology queries before now
-FilesEnd TooManyRewritings options ontology queries before now = RefusedFiles TooManyRewritings ontology queries before now
-FilesEnd (BadQueries line kind) options ontology queries before now = RefusedFiles (BadQueries line kind) ontology queries before now
-FilesEnd ReadFault options ontology queries before now = RefusedFiles ReadFault ontology queries before now ⊎ (Rose before.read_faults now.read_faults × WatchedFiles ReadFault options ontology queries before now)
-FilesEnd WriteFault options ontology queries before now = Rose before.write_faults now.write_faults × WatchedFiles WriteFault options ontology queries before now
-FilesEnd Memory options ontology queries before now = IsUntouched before now ⊎ WatchedFiles Memory options ontology queries before now
-FilesEnd StreamLimit options ontology queries before now = WatchedFiles StreamLimit options ontology queries before now
+-- how a drill of this seed and so many snapshots ended
+abbrev pub DrillEnds : ℕ → ℕ → Ending Refusal → Ports → Ports → Type 0
+DrillEnds seed count ending before now =
+    OpenedEnds (Opens nothing_more MadeSay)
+    (OpeningFails nothing_more MadeSay (TextsUnread ontology_text queries_text))
+    (λ setting. TextEnds (IsDrill setting (stream_text seed count))) ending before now
 
--- how what the words mean ended. A rewriting and a drill take nothing from the input, and a drill touches no file
-abbrev pub CommandEnds : Meaning → Ending → Outside → Outside → Type 0
-CommandEnds (meaning.watch w) ending before now = FilesEnd ending (options_of w) w.ontology w.queries before now
-CommandEnds (meaning.rewrite ontology queries) ending before now =
-    (now.left ≡ before.left)
-    × RewriteEnds ending ontology queries before.held before.file_faults now.file_faults before.got now.got before.write_faults now.write_faults
-CommandEnds (meaning.drill seed count) ending before now =
-    (now.left ≡ before.left) × (now.file_faults ≡ before.file_faults)
-    × DrillEnds ending seed count before.got now.got before.write_faults now.write_faults
+-- how what is asked for ended. A drill touches no file
+abbrev pub AskedEnds : Asked → Ending Refusal → Outside → Outside → Type 0
+AskedEnds (on_files names job) ending before now = JobEnds job names ending before now
+AskedEnds (drill seed count) ending before now =
+    (now.files ≡ before.files) × DrillEnds seed count ending before.ports now.ports
 
 -- the words mean this, and it was done
-pub record Performed (ending : Ending) (words : List (List ℕ)) (before now : Outside) : Type 0 where
+pub record Performed (ending : Ending Refusal) (words : List (List ℕ)) (before now : Outside) : Type 0 where
   pub means : Meaning
   pub words_mean : meaning_of_words words ≡ Some means
-  pub ends : CommandEnds means ending before now
+  pub ends : AskedEnds (asked_by means) ending before now
 
 -- how a run of these words ended
-abbrev pub RunEnds : Ending → List (List ℕ) → Outside → Outside → Type 0
-RunEnds Usage words before now = (meaning_of_words words ≡ None) × IsUntouched before now
-RunEnds Memory words before now = IsUntouched before now ⊎ Performed Memory words before now
+abbrev pub RunEnds : Ending Refusal → List (List ℕ) → Outside → Outside → Type 0
+RunEnds Usage words before now = (meaning_of_words words ≡ None) × (now ≡ before)
+RunEnds Memory words before now = (now ≡ before) ⊎ Performed Memory words before now
 RunEnds ending words before now = Performed ending words before now
 
 -- the error sink gained a beginning of the line, and all of it unless its count of faults rose
-pub record Says (before now : Option (List ℕ)) (faults_before faults_now : ℕ) (line : List ℕ) : Type 0 where
+pub record Says (before now : SinkTold) (line : List ℕ) : Type 0 where
   pub wrote : List ℕ
-  pub gains : Gains before now wrote
+  pub gains : Gains before.got now.got wrote
   pub front : IsFront wrote line
-  pub whole : (wrote ≡ line) ⊎ Rose faults_before faults_now
+  pub whole : (wrote ≡ line) ⊎ Rose before.faults now.faults
 
--- how a run ended, and what it said of it
-pub record Ran (status : Status) (words : List (List ℕ)) (before now : Outside) (err_before err_now : Option (List ℕ)) (err_faults_before err_faults_now : ℕ) : Type 0 where
-  pub ending : Ending
+-- how a run ended, and what it said of it on the error sink
+pub record Ran (status : Status) (words : List (List ℕ)) (before now : Outside) (err_before err_now : SinkTold) : Type 0 where
+  pub ending : Ending Refusal
   pub status_is : status ≡ status_of ending
   pub ends : RunEnds ending words before now
-  pub files_stay : now.held ≡ before.held
-  pub says : Says err_before err_now err_faults_before err_faults_now (line_of ending)
+  pub says : Says err_before err_now (line_of ending)

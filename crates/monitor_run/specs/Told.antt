@@ -1,5 +1,5 @@
 -- What a report tells of the lines of a stream.
-use Rattle.std.specs.Prelude.{◌≡◌, ℕ, ◌+◌, Bool, true, false, Option, None, Some, List, [], ◌∷◌, ◌++◌, length}
+use Rattle.std.specs.Prelude.{◌≡◌, ℕ, Bool, true, false, Option, None, Some, List, [], ◌∷◌, length}
 use Rattle.dl_syntax.specs.Rows.{Relation}
 use Rattle.tcq_syntax.specs.Histories.{History, with_snapshot}
 use Rattle.tcq_syntax.specs.Kept.{IsKeptSize}
@@ -50,13 +50,3 @@ pub record TellsLine (task : Task) (history : History) (line : ℕ) (item : Stre
   pub outcome : Outcome
   pub has : HasOutcome task.setting.ontology task.options.form item outcome
   pub replies : Replies task history line outcome told after
-
--- what is told of lines in their order, of which the first has this number, and the history after them
-abbrev pub Told : Task → List StreamLine → ℕ → History → List Event → History → Type 0
-Told task [] line history told after = (told ≡ []) × (after ≡ history)
-Told task (item ∷ items) line history told after =
-    (first rest : List Event)
-    × (next : History)
-    × TellsLine task history line item first next
-    × Told task items (line + 1) next rest after
-    × (told ≡ first ++ rest)

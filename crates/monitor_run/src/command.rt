@@ -1,39 +1,60 @@
 // The top call.
 ghost use Rattle.std.specs.Prelude.{◌≡◌};
 ghost use Rattle.command_words.specs.Commands.{texts_of};
-ghost use Rattle.command_words.specs.Meanings.{IsWithinLimits, meaning_of, watching_of};
-ghost use Rattle.monitor_run.specs.Ends.{line_of, status_of};
-ghost use Rattle.monitor_run.specs.Running.{FilesEnd, CommandEnds, RunEnds, Says, Ran};
-ghost use Rattle.monitor_run.specs.Task.{options_of};
+ghost use Rattle.command_words.specs.Meanings.{IsWithinLimits, meaning_of};
+ghost use Rattle.stream_report.specs.Outside.{outside_of, sink_told};
+ghost use Rattle.monitor_run.specs.Ends.{line_of, status_of, status_of_refusal};
+ghost use Rattle.monitor_run.specs.Jobs.{asked_by, file_names};
+ghost use Rattle.monitor_run.specs.Running.{JobEnds, AskedEnds, RunEnds, Says, Ran};
 
 use crate::drilling::drill;
-use crate::ending::{Ending, Status};
+use crate::ending::{Refusal, Status};
 use crate::error_line::error_line;
+use crate::jobs::{Job, Names};
 use crate::opening::open_files;
-use crate::options::options_of;
+use crate::options::{Options, options_of};
 use crate::rewriting_files::rewrite_files;
-use crate::running::watch;
-use command_words::{Request, Watch, WordsFault, read_words};
-use edge_io::{Files, Sink, Source, write_all};
+use crate::watching::watch;
+use command_words::{Request, WordsFault, read_words};
+use edge_io::{Files, Sink, Source};
 use std::alloc::Global;
+use stream_report::{Ending, write_all};
 
-/// Watches the stream by the files that the words name.
+/// Watches the stream by the files of these names.
 fn watch_files<F: Files, S: Source, K: Sink>(
     alloc: Global,
-    asked: Watch<'_>,
+    names: Names<'_>,
+    options: Options,
     files: &mut F,
     input: &mut S,
     out: &mut K,
-) -> Ending
-    ensures ends { FilesEnd result (options_of (watching_of asked.entry)) asked.entry.ontology.now asked.entry.queries.now (record { held = F.held files.old; file_faults = F.faults files.old; left = S.left input.old; read_faults = S.faults input.old; got = K.got out.old; write_faults = K.faults out.old }) (record { held = F.held files.new; file_faults = F.faults files.new; left = S.left input.new; read_faults = S.faults input.new; got = K.got out.new; write_faults = K.faults out.new }) }
-    ensures files { F.held files.new ≡ F.held files.old }
+) -> Ending<Refusal>
+    ensures ends { JobEnds (Job.Watch options) (file_names names.entry) result
+        (outside_of F.Files S.Source K.Sink files.old input.old out.old)
+        (outside_of F.Files S.Source K.Sink files.new input.new out.new) }
 {
-    match open_files(alloc, files, asked.ontology, asked.queries) {
-        Ok(monitor) => {
-            let mut monitor = monitor;
-            watch(alloc, options_of(asked), &mut monitor, input, out)
-        }
+    match open_files(alloc, files, names) {
+        Ok(monitor) => watch(alloc, options, monitor, input, out),
         Err(ending) => ending,
+    }
+}
+
+/// Does a job on the files of these names.
+fn do_job<F: Files, S: Source, K: Sink>(
+    alloc: Global,
+    names: Names<'_>,
+    job: Job,
+    files: &mut F,
+    input: &mut S,
+    out: &mut K,
+) -> Ending<Refusal>
+    ensures ends { JobEnds job (file_names names.entry) result
+        (outside_of F.Files S.Source K.Sink files.old input.old out.old)
+        (outside_of F.Files S.Source K.Sink files.new input.new out.new) }
+{
+    match job {
+        Job::Watch(options) => watch_files(alloc, names, options, files, input, out),
+        Job::Rewrite => rewrite_files(alloc, names, files, out),
     }
 }
 
@@ -44,16 +65,31 @@ fn perform<F: Files, S: Source, K: Sink>(
     files: &mut F,
     input: &mut S,
     out: &mut K,
-) -> Ending
+) -> Ending<Refusal>
     requires { IsWithinLimits (meaning_of request) }
-    ensures ends { CommandEnds (meaning_of request.entry) result (record { held = F.held files.old; file_faults = F.faults files.old; left = S.left input.old; read_faults = S.faults input.old; got = K.got out.old; write_faults = K.faults out.old }) (record { held = F.held files.new; file_faults = F.faults files.new; left = S.left input.new; read_faults = S.faults input.new; got = K.got out.new; write_faults = K.faults out.new }) }
-    ensures files { F.held files.new ≡ F.held files.old }
+    ensures ends { AskedEnds (asked_by (meaning_of request.entry)) result
+        (outside_of F.Files S.Source K.Sink files.old input.old out.old)
+        (outside_of F.Files S.Source K.Sink files.new input.new out.new) }
 {
     match request {
-        Request::Watch(asked) => watch_files(alloc, asked, files, input, out),
-        Request::Rewrite { ontology, queries } => rewrite_files(
-            alloc, ontology, queries, files, out,
-        ),
+        Request::Watch(asked) => {
+            let names = Names {
+                ontology: asked.ontology,
+                queries: asked.queries,
+            };
+            do_job(
+                alloc,
+                names,
+                Job::Watch(options_of(asked)),
+                files,
+                input,
+                out,
+            )
+        }
+        Request::Rewrite { ontology, queries } => {
+            let names = Names { ontology, queries };
+            do_job(alloc, names, Job::Rewrite, files, input, out)
+        }
         Request::Drill { seed, count } => drill(alloc, seed, count, out),
     }
 }
@@ -65,9 +101,10 @@ fn run_words<F: Files, S: Source, K: Sink>(
     files: &mut F,
     input: &mut S,
     out: &mut K,
-) -> Ending
-    ensures ends { RunEnds result (texts_of words.now) (record { held = F.held files.old; file_faults = F.faults files.old; left = S.left input.old; read_faults = S.faults input.old; got = K.got out.old; write_faults = K.faults out.old }) (record { held = F.held files.new; file_faults = F.faults files.new; left = S.left input.new; read_faults = S.faults input.new; got = K.got out.new; write_faults = K.faults out.new }) }
-    ensures files { F.held files.new ≡ F.held files.old }
+) -> Ending<Refusal>
+    ensures ends { RunEnds result (texts_of words.now)
+        (outside_of F.Files S.Source K.Sink files.old input.old out.old)
+        (outside_of F.Files S.Source K.Sink files.new input.new out.new) }
 {
     match read_words(alloc, words) {
         Ok(request) => perform(alloc, request, files, input, out),
@@ -76,15 +113,23 @@ fn run_words<F: Files, S: Source, K: Sink>(
     }
 }
 
-fn status(ending: Ending) -> Status
+fn refusal_status(refusal: Refusal) -> Status
+    ensures { result ≡ status_of_refusal refusal }
+{
+    match refusal {
+        Refusal::BadOntology(_, _) => Status::BadOntology,
+        Refusal::TooManyRewritings => Status::BadOntology,
+        Refusal::BadQueries(_, _) => Status::BadQueries,
+    }
+}
+
+fn status(ending: Ending<Refusal>) -> Status
     ensures { result ≡ status_of ending }
 {
     match ending {
         Ending::Done => Status::Done,
         Ending::Usage => Status::Usage,
-        Ending::BadOntology(_, _) => Status::BadOntology,
-        Ending::TooManyRewritings => Status::BadOntology,
-        Ending::BadQueries(_, _) => Status::BadQueries,
+        Ending::Refused(refusal) => refusal_status(refusal),
         Ending::ReadFault => Status::ReadFault,
         Ending::WriteFault => Status::WriteFault,
         Ending::Memory => Status::Memory,
@@ -93,18 +138,18 @@ fn status(ending: Ending) -> Status
 }
 
 /// Says on `err` how the run ended, in one line. A fault of `err` changes nothing.
-fn say<E: Sink>(ending: Ending, err: &mut E)
-    ensures { Says (E.got err.old) (E.got err.new) (E.faults err.old) (E.faults err.new) (line_of ending) }
+fn say<E: Sink>(ending: Ending<Refusal>, err: &mut E)
+    ensures { Says (sink_told E.Sink err.old) (sink_told E.Sink err.new) (line_of ending) }
 {
     let line = error_line(ending);
     let _ = write_all(err, line.as_slice());
 }
 
 /// Runs the command that the words name: `watch ONTOLOGY QUERIES` reads the two files, watches
-/// `input` to its end and writes the report to `out`; `rewrite ONTOLOGY QUERIES` reads the two files
-/// and writes the rewritings of all leaves to `out`; `drill SEED COUNT` makes an ontology, queries and
-/// a stream, watches it, and writes to `out` what its last snapshot tells and the end of the report.
-/// What a status means is told on `err`.
+/// `input` to its end and writes the report to `out`; `rewrite ONTOLOGY QUERIES` reads the two
+/// files and writes the rewritings of all leaves to `out`; `drill SEED COUNT` makes an ontology,
+/// queries and a stream, watches it, and writes to `out` what its last snapshot tells and the end
+/// of the report. What a status means is told on `err`.
 pub fn run<F: Files, S: Source, K: Sink, E: Sink>(
     alloc: Global,
     words: &[String],
@@ -113,7 +158,10 @@ pub fn run<F: Files, S: Source, K: Sink, E: Sink>(
     out: &mut K,
     err: &mut E,
 ) -> Status
-    ensures { Ran result (texts_of words.now) (record { held = F.held files.old; file_faults = F.faults files.old; left = S.left input.old; read_faults = S.faults input.old; got = K.got out.old; write_faults = K.faults out.old }) (record { held = F.held files.new; file_faults = F.faults files.new; left = S.left input.new; read_faults = S.faults input.new; got = K.got out.new; write_faults = K.faults out.new }) (E.got err.old) (E.got err.new) (E.faults err.old) (E.faults err.new) }
+    ensures { Ran result (texts_of words.now)
+        (outside_of F.Files S.Source K.Sink files.old input.old out.old)
+        (outside_of F.Files S.Source K.Sink files.new input.new out.new)
+        (sink_told E.Sink err.old) (sink_told E.Sink err.new) }
 {
     let ending = run_words(alloc, words, files, input, out);
     say(ending, err);

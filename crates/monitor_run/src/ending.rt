@@ -1,3 +1,4 @@
+// How a run ends.
 use ontology_reader::OntologyKind;
 use tcq_reader::QueryKind;
 
@@ -14,17 +15,13 @@ pub enum Status {
     StreamLimit = 9,
 }
 
-/// How a run ended, with what is said of it.
+/// Why the sources of a run can't be used.
 #[derive(Clone, Copy, Debug, PartialEq, Eq)]
-pub enum Ending {
-    Done,
-    Usage,
+pub enum Refusal {
+    /// The line of the ontology's first fault, and what it is.
     BadOntology(u64, OntologyKind),
     /// The leaves and the clashes reach too many queries.
     TooManyRewritings,
+    /// The line of the queries' first fault, and what it is.
     BadQueries(u64, QueryKind),
-    ReadFault,
-    WriteFault,
-    Memory,
-    StreamLimit,
 }

@@ -3,10 +3,11 @@ ghost use Rattle.std.specs.Prelude.{◌≡◌, ◌++◌, ◌+◌, ◌≤◌, len
 ghost use Rattle.arrayvec.specs.ArrayVec.{array_vec_len};
 ghost use Rattle.monitor_run.specs.Ends.{kind_text, query_kind_text, line_of};
 
-use crate::ending::Ending;
+use crate::ending::Refusal;
 use arrayvec::ArrayVec;
 use itoa::Buffer;
 use ontology_reader::OntologyKind;
+use stream_report::Ending;
 use tcq_reader::QueryKind;
 
 /// Appends bytes that fit.
@@ -35,7 +36,8 @@ fn kind_word(kind: OntologyKind) -> &'static [u8]
 /// The line of an ontology's fault.
 fn put_fault(out: &mut ArrayVec<u8, 256>, line: u64, kind: OntologyKind)
     requires { array_vec_len out.old ≡ 0 }
-    ensures { out.new.items ≡ out.old.items ++ line_of (Ending.BadOntology line kind) }
+    ensures { out.new.items ≡ out.old.items
+        ++ line_of (Ending.Refused (Refusal.BadOntology line kind)) }
 {
     let mut buffer = Buffer::new();
     put(out, b"tom: ontology line ");
@@ -77,7 +79,8 @@ fn put_query_kind(out: &mut ArrayVec<u8, 256>, kind: QueryKind)
 /// The line of a fault of the queries.
 fn put_query_fault(out: &mut ArrayVec<u8, 256>, line: u64, kind: QueryKind)
     requires { array_vec_len out.old ≡ 0 }
-    ensures { out.new.items ≡ out.old.items ++ line_of (Ending.BadQueries line kind) }
+    ensures { out.new.items ≡ out.old.items
+        ++ line_of (Ending.Refused (Refusal.BadQueries line kind)) }
 {
     let mut buffer = Buffer::new();
     put(out, b"tom: queries line ");
@@ -87,17 +90,27 @@ fn put_query_fault(out: &mut ArrayVec<u8, 256>, line: u64, kind: QueryKind)
     put(out, b"\n");
 }
 
+/// The line of a refusal.
+fn put_refusal(out: &mut ArrayVec<u8, 256>, refusal: Refusal)
+    requires { array_vec_len out.old ≡ 0 }
+    ensures { out.new.items ≡ out.old.items ++ line_of (Ending.Refused refusal) }
+{
+    match refusal {
+        Refusal::BadOntology(line, kind) => put_fault(out, line, kind),
+        Refusal::TooManyRewritings => put(out, b"tom: ontology: too-many-rewritings\n"),
+        Refusal::BadQueries(line, kind) => put_query_fault(out, line, kind),
+    }
+}
+
 /// The line that says how a run ended, if there is one.
-pub fn error_line(ending: Ending) -> ArrayVec<u8, 256>
+pub fn error_line(ending: Ending<Refusal>) -> ArrayVec<u8, 256>
     ensures { result.items ≡ line_of ending }
 {
     let mut line = ArrayVec::new();
     match ending {
         Ending::Done => {}
         Ending::Usage => put(&mut line, b"tom: usage\n"),
-        Ending::BadOntology(number, kind) => put_fault(&mut line, number, kind),
-        Ending::TooManyRewritings => put(&mut line, b"tom: ontology: too-many-rewritings\n"),
-        Ending::BadQueries(number, kind) => put_query_fault(&mut line, number, kind),
+        Ending::Refused(refusal) => put_refusal(&mut line, refusal),
         Ending::ReadFault => put(&mut line, b"tom: read fault\n"),
         Ending::WriteFault => put(&mut line, b"tom: write fault\n"),
         Ending::Memory => put(&mut line, b"tom: out of memory\n"),

@@ -21,7 +21,8 @@ fn text_of(alloc: Global, ontology: &Ontology, cq: &Cq) -> Result<Vec<u8>, Memor
 
 /// The texts of the queries, in their order.
 fn texts_of(alloc: Global, ontology: &Ontology, members: &[Cq]) -> Result<Vec<Vec<u8>>, Memory>
-    ensures { IfOk result (λ texts. bytes_of_each texts.items ≡ map (cq_text ontology.now) members.now) }
+    ensures { IfOk result (λ texts.
+        bytes_of_each texts.items ≡ map (cq_text ontology.now) members.now) }
 {
     let mut texts = Vec::with_capacity(alloc, members.len())?;
     for cq in members {
@@ -37,8 +38,10 @@ pub fn sorted_texts(
     ontology: &Ontology,
     members: &[Cq],
 ) -> Result<Vec<Vec<u8>>, Memory>
-    ensures arranged { IfOk result (λ texts. IsPermutation (map (cq_text ontology.now) members.now) (bytes_of_each texts.items)) }
-    ensures sorted { IfOk result (λ texts. IsSorted (slice_cmp nat_cmp) (bytes_of_each texts.items)) }
+    ensures arranged { IfOk result (λ texts.
+        IsPermutation (map (cq_text ontology.now) members.now) (bytes_of_each texts.items)) }
+    ensures sorted { IfOk result (λ texts.
+        IsSorted (slice_cmp nat_cmp) (bytes_of_each texts.items)) }
 {
     let mut texts = texts_of(alloc, ontology, members)?;
     texts.sort()?;

@@ -5,19 +5,20 @@ mod command;
 mod drilling;
 mod ending;
 mod error_line;
+mod jobs;
 pub mod laws;
 mod leaf_texts;
 mod opening;
 mod options;
 mod reaching;
+mod rehearsing;
 mod rewriting;
 mod rewriting_files;
-mod running;
 mod sources;
 mod telling;
 #[cfg(test)]
 mod tests;
-mod writing;
+mod watching;
 
 pub use command::run;
 pub use ending::Status;

@@ -3,7 +3,8 @@ ghost use Rattle.std.specs.Prelude.{◌≡◌, ◌≤◌, ◌∷◌, [], Err, If
 ghost use Rattle.dl_syntax.specs.Queries.{IsQuery};
 ghost use Rattle.query_unify.specs.Table.{role_atom as role_atom_of, basic_atom as basic_atom_of};
 ghost use Rattle.perfect_ref.specs.Plain.{HoldsOf, HoldsOfMore, Reachable};
-ghost use Rattle.monitor_run.specs.Reaching.{clash_query as query_of_clash, ReachesJust, ReachesMore};
+ghost use Rattle.monitor_run.specs.Reaching.{clash_query as query_of_clash};
+ghost use Rattle.monitor_run.specs.Reaching.{ReachesJust, ReachesMore};
 
 use dl_syntax::{Atom, Basic, Clash, Cq, Items, Memory, Role, Term};
 use perfect_ref::{RewriteFault, Rewriter};
@@ -62,8 +63,10 @@ fn count_clash(
     room: u32,
 ) -> Result<u32, RewriteFault>
     ensures few { IfOk result (λ count. count ≤ room) }
-    ensures count { IfOk result (λ count. HoldsOf (Reachable rewriter.now (query_of_clash clash.now)) count) }
-    ensures many { result ≡ Err RewriteFault.TooManyRewritings → HoldsOfMore (Reachable rewriter.now (query_of_clash clash.now)) room }
+    ensures count { IfOk result (λ count. HoldsOf (Reachable rewriter.now
+        (query_of_clash clash.now)) count) }
+    ensures many { result ≡ Err RewriteFault.TooManyRewritings →
+        HoldsOfMore (Reachable rewriter.now (query_of_clash clash.now)) room }
 {
     match clash_query(alloc, clash) {
         Ok(cq) => rewriter.reach_count(&cq, room),
@@ -71,8 +74,8 @@ fn count_clash(
     }
 }
 
-/// How many queries the clashes reach, each clash's counted by themselves. `TooManyRewritings` comes
-/// exactly where they are more than `room`.
+/// How many queries the clashes reach, each clash's counted by themselves. `TooManyRewritings`
+/// comes exactly where they are more than `room`.
 pub fn count_clashes(
     alloc: Global,
     rewriter: &Rewriter,
@@ -80,8 +83,10 @@ pub fn count_clashes(
     room: u32,
 ) -> Result<u32, RewriteFault>
     ensures few { IfOk result (λ count. count ≤ room) }
-    ensures just { IfOk result (λ count. ReachesJust rewriter.now (map query_of_clash clashes.now) count) }
-    ensures many { result ≡ Err RewriteFault.TooManyRewritings → ReachesMore rewriter.now (map query_of_clash clashes.now) room }
+    ensures just { IfOk result (λ count. ReachesJust rewriter.now
+        (map query_of_clash clashes.now) count) }
+    ensures many { result ≡ Err RewriteFault.TooManyRewritings →
+        ReachesMore rewriter.now (map query_of_clash clashes.now) room }
 {
     let mut count = 0;
     for clash in clashes {

@@ -5,7 +5,8 @@ ghost use Rattle.dl_syntax.specs.Queries.{IsQuery};
 ghost use Rattle.tcq_syntax.specs.declared.nodes.Node.TheVariants as node_value;
 ghost use Rattle.perfect_ref.specs.Plain.{encoded, Lists, PlainReachable};
 ghost use Rattle.monitor_core.specs.Setting.{Setting};
-ghost use Rattle.monitor_run.specs.Leaves.{TellsMore, IsRewriting, leaf_of, leaves_of, leaves as leaves_in, asked};
+ghost use Rattle.monitor_run.specs.Leaves.{TellsMore, IsRewriting, leaf_of};
+ghost use Rattle.monitor_run.specs.Leaves.{leaves_of, leaves as leaves_in, asked};
 ghost use Rattle.monitor_run.specs.Reaching.{Gathers, ReachesMore, AreTooMany};
 
 use crate::leaf_texts::{append_texts, sorted_texts};
@@ -35,7 +36,10 @@ fn append_rewriting(
     members: &[Cq],
     text: &mut Vec<u8>,
 ) -> Result<(), Memory>
-    ensures { OnOk result ((asks : CqValue) → Lists (PlainReachable (encoded source.now.ontology.now) asks) members.now → TellsMore source.now.ontology.now (record { name = name.now; place = place; asks = asks }) text.old.items text.new.items) }
+    ensures { OnOk result ((asks : CqValue) →
+        Lists (PlainReachable (encoded source.now.ontology.now) asks) members.now →
+        TellsMore source.now.ontology.now (record { name = name.now; place = place; asks = asks })
+        text.old.items text.new.items) }
 {
     let texts = sorted_texts(source.alloc, source.ontology, members)?;
     append_leaf(text, name, place as u64, texts.len() as u64)?;
@@ -54,8 +58,11 @@ fn gather_leaf(
     requires same { source.now.rewriter.now ≡ encoded source.now.ontology.now }
     requires query { IsQuery cq.now }
     ensures few { IfOk result (λ count. count ≤ room) }
-    ensures gathers { IfOk result (λ count. Gathers source.now.ontology.now (record { name = name.now; place = place; asks = cq.now } ∷ []) text.old.items text.new.items count) }
-    ensures many { result ≡ Err RewriteFault.TooManyRewritings → ReachesMore (encoded source.now.ontology.now) (cq.now ∷ []) room }
+    ensures gathers { IfOk result (Gathers source.now.ontology.now
+        (record { name = name.now; place = place; asks = cq.now } ∷ [])
+        text.old.items text.new.items) }
+    ensures many { result ≡ Err RewriteFault.TooManyRewritings →
+        ReachesMore (encoded source.now.ontology.now) (cq.now ∷ []) room }
 {
     match source.rewriter.rewrite_counted(cq, room) {
         Ok(counted) => match append_rewriting(source, name, place, &counted.members, text) {
@@ -78,8 +85,11 @@ fn gather_node(
     requires same { source.now.rewriter.now ≡ encoded source.now.ontology.now }
     requires query { (q : CqValue) → node.now ≡ node_value.Leaf q → IsQuery q }
     ensures few { IfOk result (λ count. count ≤ room) }
-    ensures gathers { IfOk result (λ count. Gathers source.now.ontology.now (leaf_of name.now place node.now) text.old.items text.new.items count) }
-    ensures many { result ≡ Err RewriteFault.TooManyRewritings → ReachesMore (encoded source.now.ontology.now) (asked (leaf_of name.now place node.now)) room }
+    ensures gathers { IfOk result (Gathers source.now.ontology.now
+        (leaf_of name.now place node.now) text.old.items text.new.items) }
+    ensures many { result ≡ Err RewriteFault.TooManyRewritings →
+        ReachesMore (encoded source.now.ontology.now)
+        (asked (leaf_of name.now place node.now)) room }
 {
     match node {
         Node::Leaf(cq) => gather_leaf(source, name, place, cq, room, text),
@@ -96,8 +106,10 @@ fn gather_query(
 ) -> Result<u32, RewriteFault>
     requires { source.now.rewriter.now ≡ encoded source.now.ontology.now }
     ensures few { IfOk result (λ count. count ≤ room) }
-    ensures gathers { IfOk result (λ count. Gathers source.now.ontology.now (leaves_of query.now) text.old.items text.new.items count) }
-    ensures many { result ≡ Err RewriteFault.TooManyRewritings → ReachesMore (encoded source.now.ontology.now) (asked (leaves_of query.now)) room }
+    ensures gathers { IfOk result (Gathers source.now.ontology.now
+        (leaves_of query.now) text.old.items text.new.items) }
+    ensures many { result ≡ Err RewriteFault.TooManyRewritings →
+        ReachesMore (encoded source.now.ontology.now) (asked (leaves_of query.now)) room }
 {
     let name = query.name().bytes();
     let nodes = query.nodes();
@@ -120,8 +132,10 @@ fn gather_queries(
 ) -> Result<u32, RewriteFault>
     requires { source.now.rewriter.now ≡ encoded source.now.ontology.now }
     ensures few { IfOk result (λ count. count ≤ room) }
-    ensures gathers { IfOk result (λ count. Gathers source.now.ontology.now (leaves_in queries.now) text.old.items text.new.items count) }
-    ensures many { result ≡ Err RewriteFault.TooManyRewritings → ReachesMore (encoded source.now.ontology.now) (asked (leaves_in queries.now)) room }
+    ensures gathers { IfOk result (Gathers source.now.ontology.now
+        (leaves_in queries.now) text.old.items text.new.items) }
+    ensures many { result ≡ Err RewriteFault.TooManyRewritings →
+        ReachesMore (encoded source.now.ontology.now) (asked (leaves_in queries.now)) room }
 {
     let mut count = 0;
     for query in queries {
@@ -140,9 +154,13 @@ fn gather_all(
     text: &mut Vec<u8>,
 ) -> Result<(), RewriteFault>
     requires { source.now.rewriter.now ≡ encoded source.now.ontology.now }
-    ensures text { OnOk result (text.old.items ≡ [] → IsRewriting (record { ontology = source.now.ontology.now; queries = queries.now }) text.new.items) }
-    ensures within { OnOk result (AreTooMany (record { ontology = source.now.ontology.now; queries = queries.now }) → ⊥) }
-    ensures many { result ≡ Err RewriteFault.TooManyRewritings → AreTooMany (record { ontology = source.now.ontology.now; queries = queries.now }) }
+    ensures text { OnOk result (text.old.items ≡ [] →
+        IsRewriting (record { ontology = source.now.ontology.now; queries = queries.now })
+        text.new.items) }
+    ensures within { OnOk result (
+        AreTooMany (record { ontology = source.now.ontology.now; queries = queries.now }) → ⊥) }
+    ensures many { result ≡ Err RewriteFault.TooManyRewritings →
+        AreTooMany (record { ontology = source.now.ontology.now; queries = queries.now }) }
 {
     let clashes = source.ontology.clashes();
     match count_clashes(source.alloc, source.rewriter, clashes, REWRITING_LIMIT) {
@@ -155,15 +173,19 @@ fn gather_all(
 }
 
 /// The text of the rewritings of all leaves. `TooManyRewritings` comes exactly where the leaves and
-/// the clashes reach more than 1,048,576 queries, each leaf's and each clash's counted by themselves.
+/// the clashes reach more than 1,048,576 queries, each leaf's and each clash's counted by
+/// themselves.
 pub fn rewriting_text(
     alloc: Global,
     ontology: &Ontology,
     queries: &[Query],
 ) -> Result<Vec<u8>, RewriteFault>
-    ensures text { IfOk result (λ text. IsRewriting (record { ontology = ontology.now; queries = queries.now }) text.items) }
-    ensures within { IfOk result (λ _. AreTooMany (record { ontology = ontology.now; queries = queries.now }) → ⊥) }
-    ensures many { result ≡ Err RewriteFault.TooManyRewritings → AreTooMany (record { ontology = ontology.now; queries = queries.now }) }
+    ensures text { IfOk result (λ text.
+        IsRewriting (record { ontology = ontology.now; queries = queries.now }) text.items) }
+    ensures within { IfOk result (λ _.
+        AreTooMany (record { ontology = ontology.now; queries = queries.now }) → ⊥) }
+    ensures many { result ≡ Err RewriteFault.TooManyRewritings →
+        AreTooMany (record { ontology = ontology.now; queries = queries.now }) }
 {
     let mut text = Vec::new(alloc);
     let rewriter = match Rewriter::new(alloc, ontology) {

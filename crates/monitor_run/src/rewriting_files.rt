@@ -1,30 +1,39 @@
 // The command `rewrite`.
 ghost use Rattle.std.specs.Prelude.{◌≡◌};
-ghost use Rattle.monitor_run.specs.Rewriting.{RewriteEnds};
+ghost use Rattle.stream_report.specs.Outside.{SourceTold, files_told, sink_told};
+ghost use Rattle.monitor_run.specs.Jobs.{file_names};
+ghost use Rattle.monitor_run.specs.Running.{JobEnds};
 
-use crate::ending::Ending;
+use crate::ending::Refusal;
+use crate::jobs::{Job, Names};
 use crate::rewriting::rewriting_text;
 use crate::sources::read_sources;
-use crate::writing::write_text;
 use edge_io::{Files, Sink};
 use perfect_ref::RewriteFault;
 use std::alloc::Global;
+use stream_report::{Ending, write_text};
 
-/// Writes the rewritings of all leaves, by the files of these names.
+/// Writes the rewritings of all leaves, by the files of these names, whatever the input is.
 pub fn rewrite_files<F: Files, K: Sink>(
     alloc: Global,
-    ontology: &str,
-    queries: &str,
+    names: Names<'_>,
     files: &mut F,
     out: &mut K,
-) -> Ending
-    ensures ends { RewriteEnds result ontology.now queries.now (F.held files.old) (F.faults files.old) (F.faults files.new) (K.got out.old) (K.got out.new) (K.faults out.old) (K.faults out.new) }
-    ensures files { F.held files.new ≡ F.held files.old }
+) -> Ending<Refusal>
+    ensures ends { (input : SourceTold) → JobEnds Job.Rewrite (file_names names.entry) result
+        (record {
+          files = files_told F.Files files.old;
+          ports = record { input = input; out = sink_told K.Sink out.old };
+        })
+        (record {
+          files = files_told F.Files files.new;
+          ports = record { input = input; out = sink_told K.Sink out.new };
+        }) }
 {
-    match read_sources(alloc, files, ontology, queries) {
+    match read_sources(alloc, files, names) {
         Ok(sources) => match rewriting_text(alloc, &sources.ontology, &sources.queries) {
             Ok(text) => write_text(out, &text),
-            Err(RewriteFault::TooManyRewritings) => Ending::TooManyRewritings,
+            Err(RewriteFault::TooManyRewritings) => Ending::Refused(Refusal::TooManyRewritings),
             Err(RewriteFault::Memory) => Ending::Memory,
         },
         Err(ending) => ending,

@@ -3,14 +3,20 @@ ghost use Rattle.std.specs.Prelude.{◌≡◌, ◌≤◌, Ok, IfOk, IfErr, Match
 ghost use Rattle.edge_io.specs.Held.{IsFetched};
 ghost use Rattle.ontology_reader.specs.Texts.{text_says};
 ghost use Rattle.tcq_reader.specs.Reading.{SaysQueries};
-ghost use Rattle.monitor_run.specs.Sources.{IsOntologyAtFault, AreQueriesAtFault, IsFetchRefused, Sayings, Refuses};
-ghost use Rattle.monitor_run.specs.Drill.{TextsSay, RefusesTexts};
+ghost use Rattle.monitor_run.specs.Jobs.{file_names};
+ghost use Rattle.monitor_run.specs.Sayings.{setting_in};
+ghost use Rattle.monitor_run.specs.Opening.{Is};
+ghost use Rattle.monitor_run.specs.Sources.{IsOntologyAtFault, AreQueriesAtFault, IsFetchRefused};
+ghost use Rattle.monitor_run.specs.Sources.{Says, FilesSay, FilesUnread, TextsUnread};
+ghost use Rattle.stream_report.specs.Outside.{files_told};
 
-use crate::ending::Ending;
+use crate::ending::Refusal;
+use crate::jobs::Names;
 use dl_syntax::Ontology;
 use edge_io::{FetchFault, Files};
 use ontology_reader::{OntologyFault, read_ontology};
 use std::alloc::Global;
+use stream_report::Ending;
 use tcq_reader::{QueryFault, read_queries};
 use tcq_syntax::Query;
 
@@ -25,9 +31,11 @@ pub struct Sources {
 const TEXT_LIMIT: u64 = 4_194_304;
 
 /// The first bytes of the file of this name.
-fn fetch<F: Files>(alloc: Global, files: &mut F, name: &str) -> Result<Vec<u8>, Ending>
-    ensures bytes { IfOk result (λ bytes. IsFetched (F.held files.old) name.now 4194304 bytes.items) }
-    ensures refused { IfErr result (λ ending. IsFetchRefused (F.held files.old) (F.faults files.old) (F.faults files.new) name.now ending) }
+fn fetch<F: Files>(alloc: Global, files: &mut F, name: &str) -> Result<Vec<u8>, Ending<Refusal>>
+    ensures bytes { IfOk result (λ bytes. IsFetched (F.held files.old) name.now 4194304
+        bytes.items) }
+    ensures refused { IfErr result
+        (IsFetchRefused (files_told F.Files files.old) (files_told F.Files files.new) name.now) }
     ensures held { F.held files.new ≡ F.held files.old }
     ensures later { F.faults files.old ≤ F.faults files.new }
 {
@@ -39,23 +47,34 @@ fn fetch<F: Files>(alloc: Global, files: &mut F, name: &str) -> Result<Vec<u8>, 
 }
 
 /// The ontology of the text, or how the run ends.
-fn ontology_of(alloc: Global, text: &[u8]) -> Result<Ontology, Ending>
-    ensures { MatchResult result (λ ontology. text_says text.now ≡ Ok ontology) (λ ending. IsOntologyAtFault text.now ending) }
+fn ontology_of(alloc: Global, text: &[u8]) -> Result<Ontology, Ending<Refusal>>
+    ensures { MatchResult result
+        (λ ontology. text_says text.now ≡ Ok ontology) (IsOntologyAtFault text.now) }
 {
     match read_ontology(alloc, text) {
         Ok(ontology) => Ok(ontology),
-        Err(OntologyFault::Bad { line, kind }) => Err(Ending::BadOntology(line, kind)),
+        Err(OntologyFault::Bad { line, kind }) => Err(Ending::Refused(Refusal::BadOntology(
+            line, kind,
+        ))),
         Err(OntologyFault::Memory) => Err(Ending::Memory),
     }
 }
 
 /// The queries of the text, or how the run ends.
-fn queries_of(alloc: Global, text: &[u8], ontology: &Ontology) -> Result<Vec<Query>, Ending>
-    ensures { MatchResult result (λ queries. SaysQueries ontology.now text.now queries.items) (λ ending. AreQueriesAtFault ontology.now text.now ending) }
+fn queries_of(
+    alloc: Global,
+    text: &[u8],
+    ontology: &Ontology,
+) -> Result<Vec<Query>, Ending<Refusal>>
+    ensures { MatchResult result
+        (λ queries. SaysQueries ontology.now text.now queries.items)
+        (AreQueriesAtFault ontology.now text.now) }
 {
     match read_queries(alloc, text, ontology) {
         Ok(queries) => Ok(queries),
-        Err(QueryFault::Bad { line, kind }) => Err(Ending::BadQueries(line, kind)),
+        Err(QueryFault::Bad { line, kind }) => Err(Ending::Refused(Refusal::BadQueries(
+            line, kind,
+        ))),
         Err(QueryFault::Memory) => Err(Ending::Memory),
     }
 }
@@ -64,14 +83,15 @@ fn queries_of(alloc: Global, text: &[u8], ontology: &Ontology) -> Result<Vec<Que
 pub fn read_sources<F: Files>(
     alloc: Global,
     files: &mut F,
-    ontology: &str,
-    queries: &str,
-) -> Result<Sources, Ending>
-    ensures say { IfOk result (λ sources. Sayings (F.held files.old) ontology.now queries.now (record { ontology = sources.ontology; queries = sources.queries.items })) }
-    ensures refuses { IfErr result (λ ending. Refuses (F.held files.old) (F.faults files.old) (F.faults files.new) ontology.now queries.now ending) }
+    names: Names<'_>,
+) -> Result<Sources, Ending<Refusal>>
+    ensures say { IfOk result (λ sources.
+        FilesSay (F.held files.old) (file_names names.entry) (setting_in sources)) }
+    ensures refuses { IfErr result (FilesUnread (files_told F.Files files.old)
+        (files_told F.Files files.new) (file_names names.entry)) }
     ensures held { F.held files.new ≡ F.held files.old }
 {
-    let text = match fetch(alloc, files, ontology) {
+    let text = match fetch(alloc, files, names.ontology) {
         Ok(text) => text,
         Err(ending) => return Err(ending),
     };
@@ -79,7 +99,7 @@ pub fn read_sources<F: Files>(
         Ok(ontology) => ontology,
         Err(ending) => return Err(ending),
     };
-    let text = match fetch(alloc, files, queries) {
+    let text = match fetch(alloc, files, names.queries) {
         Ok(text) => text,
         Err(ending) => return Err(ending),
     };
@@ -90,9 +110,14 @@ pub fn read_sources<F: Files>(
 }
 
 /// What these texts say, or how the run ends.
-pub fn read_texts(alloc: Global, ontology: &[u8], queries: &[u8]) -> Result<Sources, Ending>
-    ensures say { IfOk result (λ sources. TextsSay ontology.now queries.now (record { ontology = sources.ontology; queries = sources.queries.items })) }
-    ensures refuses { IfErr result (λ ending. RefusesTexts ontology.now queries.now ending) }
+pub fn read_texts(
+    alloc: Global,
+    ontology: &[u8],
+    queries: &[u8],
+) -> Result<Sources, Ending<Refusal>>
+    ensures say { IfOk result (λ sources.
+        Says (Is ontology.now) (Is queries.now) (setting_in sources)) }
+    ensures refuses { IfErr result (TextsUnread ontology.now queries.now) }
 {
     let said = match ontology_of(alloc, ontology) {
         Ok(ontology) => ontology,

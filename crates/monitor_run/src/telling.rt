@@ -1,10 +1,11 @@
 // What is told of a line, gathered in a buffer.
-ghost use Rattle.std.specs.Prelude.{◌≡◌, ◌++◌, ◌∷◌, [], ◌≤◌, ℕ, List, Ok, Err, IfOk, OnOk, Some, length};
+ghost use Rattle.std.specs.Prelude.{◌≡◌, ◌++◌, ◌∷◌, [], ◌≤◌, ℕ};
+ghost use Rattle.std.specs.Prelude.{List, Ok, Err, IfOk, OnOk, Some, length};
 ghost use Rattle.dl_syntax.specs.Ontology.{Declared};
 ghost use Rattle.tcq_syntax.specs.Histories.{History};
 ghost use Rattle.tcq_syntax.specs.Tcq.{Tcq};
 ghost use Rattle.edge_io.specs.Lines.{text as text_line};
-ghost use Rattle.edge_io.specs.Reading.{outcome_of_line, given_by};
+ghost use Rattle.stream_report.specs.Told.{item_of};
 ghost use Rattle.snapshot_reader.specs.Said.{Said, said, says};
 ghost use Rattle.snapshot_reader.specs.Answers.{Tells};
 ghost use Rattle.report_text.specs.declared.event.Event.TheVariants as event;
@@ -15,20 +16,21 @@ ghost use Rattle.monitor_core.specs.Standing.{setting_of, Stands};
 ghost use Rattle.monitor_run.specs.Task.{task_of};
 ghost use Rattle.monitor_run.specs.Told.{AreSizes, AreAskedSizes, TellsAccepted};
 ghost use Rattle.monitor_run.specs.Report.{bytes_of_event, refused_in};
-ghost use Rattle.monitor_run.specs.Replies.{AcceptsLine, HasNamesOf, IsRefusal, IsRefusedFor, told_by};
-ghost use Rattle.monitor_run.specs.Serving.{Asked, Replied};
+ghost use Rattle.monitor_run.specs.Replies.{AcceptsLine, HasNamesOf};
+ghost use Rattle.monitor_run.specs.Replies.{IsRefusal, IsRefusedFor, Replied};
 
 use crate::options::Options;
 use dl_syntax::{Items, Memory, Snapshot, Tuples};
-use edge_io::Line;
 use monitor_core::{AcceptFault, Monitor};
 use report_text::{Cause, Event, append_event};
 use snapshot_reader::{Reading, SnapFault, read_snapshot};
 use std::alloc::Global;
+use stream_report::GivenLine;
 
 /// The cause for which a text is refused, unless memory ran out.
 fn cause_of(fault: SnapFault) -> Result<Cause, Memory>
-    ensures { IfOk result (λ cause. (what : Said) → Tells (Err fault) what → IsRefusedFor what cause) }
+    ensures { IfOk result (λ cause. (what : Said) → Tells (Err fault) what →
+        IsRefusedFor what cause) }
 {
     match fault {
         SnapFault::Malformed => Ok(Cause::Malformed),
@@ -50,7 +52,8 @@ fn refused(line: u64, cause: Cause) -> Event
 /// How much is kept of each query.
 fn sizes_of(alloc: Global, monitor: &Monitor) -> Result<Items<u64>, Memory>
     ensures many { IfOk result (λ sizes. length sizes ≡ length (setting_of monitor.now).queries) }
-    ensures sizes { IfOk result (λ sizes. (history : History) → Stands monitor.now history → AreSizes (setting_of monitor.now) history (setting_of monitor.now).queries sizes) }
+    ensures sizes { IfOk result (λ sizes. (history : History) → Stands monitor.now history →
+        AreSizes (setting_of monitor.now) history (setting_of monitor.now).queries sizes) }
 {
     let count = monitor.queries().len();
     let mut sizes = Vec::with_capacity(alloc, count)?;
@@ -68,7 +71,8 @@ fn asked_sizes(
     are_asked: bool,
 ) -> Result<Option<Items<u64>>, Memory>
     ensures many { IfOk result (λ kept. HasSizes (setting_of monitor.now).queries kept) }
-    ensures sizes { IfOk result (λ kept. (history : History) → Stands monitor.now history → AreAskedSizes are_asked (setting_of monitor.now) history kept) }
+    ensures sizes { IfOk result (λ kept. (history : History) → Stands monitor.now history →
+        AreAskedSizes are_asked (setting_of monitor.now) history kept) }
 {
     if !are_asked {
         return Ok(None);
@@ -87,10 +91,15 @@ fn accepted(
     line: u64,
     answers: Vec<Tuples>,
 ) -> Result<Event, Memory>
-    requires { AreRowsOf (setting_of monitor.now).ontology (setting_of monitor.now).queries answers.items }
-    ensures answers { IfOk result (λ event. HasAnswers (setting_of monitor.now).ontology (setting_of monitor.now).queries event) }
+    requires { AreRowsOf (setting_of monitor.now).ontology (setting_of monitor.now).queries
+        answers.items }
+    ensures answers { IfOk result
+        (HasAnswers (setting_of monitor.now).ontology (setting_of monitor.now).queries) }
     ensures spelled { IfOk result IsSpelledEvent }
-    ensures tells { IfOk result (λ event. (after : History) → Stands monitor.now after → AreAllAnswers (setting_of monitor.now).ontology (setting_of monitor.now).queries after answers.items → TellsAccepted (task_of options monitor.now) after line (event ∷ [])) }
+    ensures tells { IfOk result (λ event. (after : History) → Stands monitor.now after →
+        AreAllAnswers (setting_of monitor.now).ontology (setting_of monitor.now).queries
+        after answers.items →
+        TellsAccepted (task_of options monitor.now) after line (event ∷ [])) }
 {
     match asked_sizes(alloc, monitor, options.sizes) {
         Ok(kept) => Ok(Event::Accepted {
@@ -106,7 +115,8 @@ fn accepted(
 /// What is told of the line with this number, whose snapshot was refused, unless memory ran out.
 fn refusal(number: u64, fault: AcceptFault) -> Result<Event, Memory>
     ensures refuses { IfOk result (λ told. IsRefusal number fault told) }
-    ensures answers { IfOk result (λ told. (ontology : Declared) (queries : List Tcq) → HasAnswers ontology queries told) }
+    ensures answers { IfOk result (λ told. (ontology : Declared) (queries : List Tcq) →
+        HasAnswers ontology queries told) }
     ensures spelled { IfOk result IsSpelledEvent }
 {
     match fault {
@@ -125,9 +135,14 @@ fn take(
 ) -> Result<Event, Memory>
     requires { AreOver (setting_of monitor.old).ontology snapshot.now }
     ensures setting { setting_of monitor.new ≡ setting_of monitor.old }
-    ensures answers { IfOk result (λ event. HasAnswers (setting_of monitor.old).ontology (setting_of monitor.old).queries event) }
+    ensures answers { IfOk result
+        (HasAnswers (setting_of monitor.old).ontology (setting_of monitor.old).queries) }
     ensures spelled { IfOk result IsSpelledEvent }
-    ensures ok { IfOk result (λ event. (history : History) (line : List ℕ) → Stands monitor.old history → said (setting_of monitor.old).ontology options.form line ≡ says snapshot.now → AcceptsLine options monitor.old monitor.new (text_line line) number (Some event) history) }
+    ensures ok { IfOk result (λ event. (history : History) (line : List ℕ) →
+        Stands monitor.old history →
+        said (setting_of monitor.old).ontology options.form line ≡ says snapshot.now →
+        AcceptsLine options monitor.old monitor.new (text_line line) number (Some event)
+        history) }
 {
     match monitor.accept(alloc, snapshot) {
         Ok(answers) => accepted(alloc, options, monitor, number, answers),
@@ -146,7 +161,8 @@ fn ask_text(
     requires { AreSpelled (setting_of monitor.old).queries }
     ensures setting { setting_of monitor.new ≡ setting_of monitor.old }
     ensures names { IfOk result (λ event. HasNamesOf (setting_of monitor.old) event) }
-    ensures ok { IfOk result (λ event. (history : History) → Stands monitor.old history → AcceptsLine options monitor.old monitor.new (text_line line.now) number event history) }
+    ensures ok { IfOk result (λ event. (history : History) → Stands monitor.old history →
+        AcceptsLine options monitor.old monitor.new (text_line line.now) number event history) }
 {
     match read_snapshot(alloc, line, options.form, monitor.ontology()) {
         Ok(Reading::Skip) => Ok(None),
@@ -161,23 +177,23 @@ fn ask_text(
     }
 }
 
-/// What is told of what the reader gave as the line with this number, if anything is.
+/// What is told of the line with this number, if anything is.
 pub fn ask(
     alloc: Global,
     options: Options,
     monitor: &mut Monitor,
     number: u64,
-    line: Line<'_>,
+    line: GivenLine<'_>,
 ) -> Result<Option<Event>, Memory>
     requires { AreSpelled (setting_of monitor.old).queries }
     ensures setting { setting_of monitor.new ≡ setting_of monitor.old }
     ensures names { IfOk result (λ event. HasNamesOf (setting_of monitor.old) event) }
-    ensures ok { IfOk result (λ event. (history : History) → Stands monitor.old history → Asked options monitor.old monitor.new (given_by (outcome_of_line (Ok line.entry))) number history (told_by event)) }
+    ensures ok { IfOk result (λ event. (history : History) → Stands monitor.old history →
+        AcceptsLine options monitor.old monitor.new (item_of line.entry) number event history) }
 {
     match line {
-        Line::Text(bytes) => ask_text(alloc, options, monitor, number, bytes),
-        Line::TooLong => Ok(Some(refused(number, Cause::TooLong))),
-        Line::End => Ok(None),
+        GivenLine::Text(bytes) => ask_text(alloc, options, monitor, number, bytes),
+        GivenLine::TooLong => Ok(Some(refused(number, Cause::TooLong))),
     }
 }
 
@@ -200,8 +216,10 @@ pub fn gather(
     monitor: &Monitor,
     event: &Event,
 ) -> Result<(), Memory>
-    requires { EventHasNames (setting_of monitor.now).ontology (setting_of monitor.now).queries event.now }
-    ensures { OnOk result (gathered.new.items ≡ gathered.old.items ++ bytes_of_event (task_of options monitor.now) event.now) }
+    requires { EventHasNames (setting_of monitor.now).ontology
+        (setting_of monitor.now).queries event.now }
+    ensures { OnOk result (gathered.new.items
+        ≡ gathered.old.items ++ bytes_of_event (task_of options monitor.now) event.now) }
 {
     append_event(
         gathered,
@@ -212,19 +230,21 @@ pub fn gather(
     )
 }
 
-/// Gathers what is told of what the reader gave, and answers how many lines were refused.
+/// Gathers what is told of the line with this number, and answers how many lines were refused.
 pub fn tell(
     alloc: Global,
     options: Options,
     monitor: &mut Monitor,
     number: u64,
-    line: Line<'_>,
+    line: GivenLine<'_>,
     gathered: &mut Vec<u8>,
 ) -> Result<u64, Memory>
     requires { AreSpelled (setting_of monitor.old).queries }
     ensures setting { setting_of monitor.new ≡ setting_of monitor.old }
     ensures small { IfOk result (λ refused. refused ≤ 1) }
-    ensures ok { IfOk result (λ refused. (history : History) → Stands monitor.old history → Replied options monitor.old monitor.new (given_by (outcome_of_line (Ok line.entry))) number history gathered.old.items gathered.new.items refused) }
+    ensures ok { IfOk result (λ refused. (history : History) → Stands monitor.old history →
+        Replied options monitor.old monitor.new (item_of line.entry) number history
+        gathered.old.items gathered.new.items refused) }
 {
     match ask(alloc, options, monitor, number, line) {
         Ok(None) => Ok(0),

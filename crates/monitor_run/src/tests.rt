@@ -1,7 +1,7 @@
 ghost use Rattle.std.specs.Prelude.{◌≤◌};
 
-mod following;
-mod queries;
+mod answers;
+mod refusals;
 mod rewriting;
 
 use crate::{Status, run};
@@ -14,59 +14,68 @@ const ONTOLOGY: &[u8] =
 
 const QUERIES: &[u8] = b"query f (?x) = [Failed(?x)] ;\n";
 
-/// The files O and Q with these texts.
-fn files_of(alloc: Global, ontology: &[u8], queries: &[u8]) -> Result<MemFiles, Fail> {
-    let mut files = Vec::new(alloc);
-    files.push((String::from_str(alloc, "O")?, ontology.to_vec(alloc)?))?;
-    files.push((String::from_str(alloc, "Q")?, queries.to_vec(alloc)?))?;
-    Ok(MemFiles::new(files, Vec::new(alloc)))
+/// What a run did: its status, what it wrote and what it said.
+#[derive(Drop)]
+struct Outcome {
+    status: Status,
+    report: Vec<u8>,
+    said: Vec<u8>,
 }
 
-/// This command with O and Q.
-fn words_for(alloc: Global, command: &str) -> Result<Vec<String>, Fail> {
-    let mut words = Vec::new(alloc);
-    for word in [command, "O", "Q"] {
-        words.push(String::from_str(alloc, word)?)?;
-    }
-    Ok(words)
-}
-
-/// The words `watch O Q`.
-fn words(alloc: Global) -> Result<Vec<String>, Fail> {
-    words_for(alloc, "watch")
-}
-
-/// Runs a stream that comes in steps, where the listed reads and writes of the output fail.
-fn watched(
-    alloc: Global,
-    stream: &[u8],
-    step: usize,
-    reads: &[u64],
+/// A stream, how many bytes of it a read gives and a write takes, and which of these calls fail.
+#[derive(Clone, Copy)]
+struct Ports<'a> {
+    stream: &'a [u8],
+    read_step: usize,
+    reads: &'a [u64],
     write_step: usize,
-    writes: &[u64],
-) -> Result<(Status, Vec<u8>), Fail>
-    requires read { 1 ≤ step }
-    requires write { 1 ≤ write_step }
-{
-    let mut files = files_of(alloc, ONTOLOGY, QUERIES)?;
-    let mut input = MemSource::new(stream.to_vec(alloc)?, step, reads.to_vec(alloc)?);
-    let mut out = MemSink::new(alloc, 1024, write_step, writes.to_vec(alloc)?)?;
-    let mut err = MemSink::new(alloc, 256, 256, Vec::new(alloc))?;
-    let words = words(alloc)?;
-    let status = run(alloc, &words, &mut files, &mut input, &mut out, &mut err);
-    Ok((status, out.bytes().to_vec(alloc)?))
+    writes: &'a [u64],
 }
 
-#[test]
-fn one_concept_is_watched(rt: HostRuntime) -> Result<(), Fail> {
-    let alloc = rt.alloc();
-    let (status, report) = watched(alloc, b"snap Failed(s1)\n", 1024, &[], 1024, &[])?;
-    assert_eq!(rt; status, Status::Done);
-    assert_eq!(rt;
-        report.as_slice(),
-        b"line 1 accepted 1\nanswer f s1\nend accepted 1 refused 0\n".as_slice()
-    );
-    Ok(())
+/// A stream that comes whole, with no fault.
+fn whole(stream: &[u8]) -> Ports<'_>
+    ensures read { 1 ≤ result.read_step }
+    ensures write { 1 ≤ result.write_step }
+{
+    Ports {
+        stream,
+        read_step: 1024,
+        reads: &[],
+        write_step: 1024,
+        writes: &[],
+    }
+}
+
+/// Runs a command with the files O and Q, which have these texts.
+fn ran(
+    alloc: Global,
+    words: [&str; 3],
+    ontology: &[u8],
+    queries: &[u8],
+    ports: Ports<'_>,
+) -> Result<Outcome, Fail>
+    requires read { 1 ≤ ports.read_step }
+    requires write { 1 ≤ ports.write_step }
+{
+    let mut list = Vec::new(alloc);
+    for word in words {
+        list.push(String::from_str(alloc, word)?)?;
+    }
+    let mut texts = Vec::new(alloc);
+    texts.push((String::from_str(alloc, "O")?, ontology.to_vec(alloc)?))?;
+    texts.push((String::from_str(alloc, "Q")?, queries.to_vec(alloc)?))?;
+    let mut files = MemFiles::new(texts, Vec::new(alloc));
+    let reads = ports.reads.to_vec(alloc)?;
+    let mut input = MemSource::new(ports.stream.to_vec(alloc)?, ports.read_step, reads);
+    let writes = ports.writes.to_vec(alloc)?;
+    let mut out = MemSink::new(alloc, 1024, ports.write_step, writes)?;
+    let mut err = MemSink::new(alloc, 256, 256, Vec::new(alloc))?;
+    let status = run(alloc, &list, &mut files, &mut input, &mut out, &mut err);
+    Ok(Outcome {
+        status,
+        report: out.bytes().to_vec(alloc)?,
+        said: err.bytes().to_vec(alloc)?,
+    })
 }
 
 #[test]
@@ -76,10 +85,11 @@ fn lines_come_in_any_pieces(rt: HostRuntime) -> Result<(), Fail> {
     let wanted: &[u8] =
         b"line 3 accepted 1\nanswer f s1\nline 4 accepted 2\nend accepted 2 refused 0\n";
     for count in 1..42 {
-        let step = if count == 41 { 65_536 } else { count };
-        let (status, report) = watched(alloc, stream, step, &[], 1024, &[])?;
-        assert_eq!(rt; status, Status::Done);
-        assert_eq!(rt; report.as_slice(), wanted);
+        let mut ports = whole(stream);
+        ports.read_step = count;
+        let outcome = ran(alloc, ["watch", "O", "Q"], ONTOLOGY, QUERIES, ports)?;
+        assert_eq!(rt; outcome.status, Status::Done);
+        assert_eq!(rt; outcome.report.as_slice(), wanted);
     }
     Ok(())
 }
@@ -87,13 +97,19 @@ fn lines_come_in_any_pieces(rt: HostRuntime) -> Result<(), Fail> {
 #[test]
 fn faults_leave_what_was_told(rt: HostRuntime) -> Result<(), Fail> {
     let alloc = rt.alloc();
-    let (status, report) = watched(alloc, b"snap Failed(s1)\n", 1024, &[], 4, &[3])?;
-    assert_eq!(rt; status, Status::WriteFault);
-    assert_eq!(rt; report.as_slice(), b"line 1 a".as_slice());
-    let (status, report) = watched(alloc, b"snap Failed(s1)\nsnap\n", 16, &[2], 1024, &[])?;
-    assert_eq!(rt; status, Status::ReadFault);
+    let mut ports = whole(b"snap Failed(s1)\n");
+    ports.write_step = 4;
+    ports.writes = &[3];
+    let outcome = ran(alloc, ["watch", "O", "Q"], ONTOLOGY, QUERIES, ports)?;
+    assert_eq!(rt; outcome.status, Status::WriteFault);
+    assert_eq!(rt; outcome.report.as_slice(), b"line 1 a".as_slice());
+    let mut ports = whole(b"snap Failed(s1)\nsnap\n");
+    ports.read_step = 16;
+    ports.reads = &[2];
+    let outcome = ran(alloc, ["watch", "O", "Q"], ONTOLOGY, QUERIES, ports)?;
+    assert_eq!(rt; outcome.status, Status::ReadFault);
     assert_eq!(rt;
-        report.as_slice(),
+        outcome.report.as_slice(),
         b"line 1 accepted 1\nanswer f s1\n".as_slice()
     );
     Ok(())

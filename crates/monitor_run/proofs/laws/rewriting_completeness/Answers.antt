@@ -1,4 +1,4 @@
-use Rattle.monitor_run.proofs.CompleteRewriting.{rewriting_completeness}
+use Rattle.monitor_run.proofs.Completing.{rewriting_completeness}
 use Rattle.monitor_run.proofs.laws.rewriting_completeness.Goals as goal
 
 pub returns : goal.returns

@@ -1,17 +1,39 @@
-use Rattle.std.proofs.Common.{ℕ, List, sym, subst}
+use Rattle.std.proofs.Common.{◌≡◌, ℕ, List, Err, inl, inr, refl, sym, subst}
+use Rattle.perfect_ref.specs.declared.rewriting.RewriteFault.TheVariants.{TooManyRewritings}
 use Rattle.tcq_syntax.specs.Tcq.{Tcq}
 use Rattle.monitor_core.specs.Setting.{Setting}
-use Rattle.monitor_run.specs.Sources.{Sayings}
-use Rattle.monitor_run.specs.Ends.{Finishes}
-use Rattle.monitor_run.proofs.RunLaws.{rewrote}
+use Rattle.stream_report.specs.Ends.{Written}
+use Rattle.stream_report.specs.Outside.{sink_told}
+use Rattle.stream_report.proofs.TextEndings.{text_ends}
+use Rattle.monitor_run.specs.Jobs.{file_names}
+use Rattle.monitor_run.specs.Leaves.{IsRewriting}
+use Rattle.monitor_run.specs.Sources.{FilesSay}
 use Rattle.monitor_run.proofs.rewriting_files.rewrite_files.Goals as goal
 
-pub returns-in-Ok-rewriting_text-clause-ends : goal.returns-in-Ok-rewriting_text-clause-ends
-returns-in-Ok-rewriting_text-clause-ends g c =
-    let setting : Setting = record { ontology = c.in-Ok.sources.ontology; queries = c.deref.result.now } in
-    let say : Sayings (g.F.Files.held c.args.files.now) c.args.ontology.now c.args.queries.now setting =
-    subst (λ (qs : List Tcq). Sayings (g.F.Files.held c.args.files.now) c.args.ontology.now c.args.queries.now (record { ontology = c.in-Ok.sources.ontology; queries = qs })) (sym c.deref.ensures.value) c.in-Ok.ensures.say in
-    let finishes : Finishes (g.K.Sink.got c.args.out.now) (g.K.Sink.got c.write_text.new.out) c.in-Ok-rewriting_text.text.items c.write_text.result =
-    subst (λ (t : List ℕ). Finishes (g.K.Sink.got c.args.out.now) (g.K.Sink.got c.write_text.new.out) t c.write_text.result) c.deref-in-Ok-rewriting_text.ensures.value c.write_text.ensures.finishes in
-    rewrote c.write_text.result c.args.ontology.now c.args.queries.now (g.F.Files.held c.args.files.now) (g.F.Files.faults c.args.files.now) (g.F.Files.faults c.read_sources.new.files) (g.K.Sink.got c.args.out.now) (g.K.Sink.got c.write_text.new.out) (g.K.Sink.faults c.args.out.now) (g.K.Sink.faults c.write_text.new.out)
-    setting c.in-Ok-rewriting_text.text.items say c.in-Ok-rewriting_text.ensures.within c.in-Ok-rewriting_text.ensures.text finishes c.write_text.ensures.write c.write_text.ensures.kept
+pub returns-in-Ok-rewriting_text : goal.returns-in-Ok-rewriting_text
+returns-in-Ok-rewriting_text g c = record {
+  ends = λ input.
+      let setting : Setting = record { ontology = c.in-Ok.sources.ontology; queries = c.deref.result.now } in
+      let say : FilesSay (g.F.Files.held c.args.files.now) (file_names c.args.names) setting =
+      subst (λ (qs : List Tcq). FilesSay (g.F.Files.held c.args.files.now) (file_names c.args.names) (record { ontology = c.in-Ok.sources.ontology; queries = qs })) (sym c.deref.ensures.value) c.in-Ok.ensures.say in
+      let written : Written c.write_text.result c.in-Ok-rewriting_text.text.items (g.K.Sink.got c.args.out.now) (g.K.Sink.got c.write_text.new.out) =
+      subst (λ (t : List ℕ). Written c.write_text.result t (g.K.Sink.got c.args.out.now) (g.K.Sink.got c.write_text.new.out)) c.deref-in-Ok-rewriting_text.ensures.value c.write_text.ensures.written in (
+        c.in-Ok.ensures.held,
+        inr (
+          setting,
+          record { say = say; taken = λ refusal own. own; few = c.in-Ok-rewriting_text.ensures.within },
+          text_ends (IsRewriting setting) c.write_text.result c.in-Ok-rewriting_text.text.items input (sink_told g.K.Sink c.args.out.now) (sink_told g.K.Sink c.write_text.new.out)
+              c.in-Ok-rewriting_text.ensures.text written c.write_text.ensures.write,
+        ),
+      );
+}
+
+pub returns-in-Err-TooManyRewritings : goal.returns-in-Err-TooManyRewritings
+returns-in-Err-TooManyRewritings g c = record {
+  ends = λ input.
+      let setting : Setting = record { ontology = c.in-Ok.sources.ontology; queries = c.deref.result.now } in
+      let say : FilesSay (g.F.Files.held c.args.files.now) (file_names c.args.names) setting =
+      subst (λ (qs : List Tcq). FilesSay (g.F.Files.held c.args.files.now) (file_names c.args.names) (record { ontology = c.in-Ok.sources.ontology; queries = qs })) (sym c.deref.ensures.value) c.in-Ok.ensures.say in
+      let is : c.rewriting_text.result ≡ Err TooManyRewritings = cc in
+      (c.in-Ok.ensures.held, inl (inr (setting, say, inr (refl, λ refusal own. own, c.rewriting_text.ensures.many is)), record { input = refl; out = refl }));
+}
