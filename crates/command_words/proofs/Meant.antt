@@ -6,8 +6,9 @@ use Rattle.std.proofs.lemmas.Bool.Decides.{nat_tests}
 use Rattle.clap.specs.Walk.{Row, Text, first_of, has_row}
 use Rattle.command_words.specs.declared.names.CommandName.{CommandName}
 use Rattle.command_words.specs.declared.names.CommandName.TheVariants.{Watch, Rewrite, Drill}
-use Rattle.command_words.specs.declared.request.StreamForm.TheVariants as stream
-use Rattle.command_words.specs.declared.request.ReportForm.TheVariants as report
+use Rattle.forms.specs.declared.StreamForm.TheVariants as stream
+use Rattle.forms.specs.declared.LineForm.TheVariants as line
+use Rattle.forms.specs.declared.ReportForm.TheVariants as report
 use Rattle.command_words.specs.declared.request.Request.{Request}
 use Rattle.command_words.specs.declared.request.WordsFault.{WordsFault}
 use Rattle.command_words.specs.declared.request.WordsFault.TheVariants.{Usage, Memory}
@@ -84,9 +85,9 @@ form_chosen (sizes ∷ cs) = form_chosen cs
 report_chosen : (cs : List Choice) → report_form_of (unwrap_or (chosen (codes "report") cs) (codes "text")) ≡ Some (report_said cs)
 report_chosen [] = refl
 report_chosen (form f ∷ cs) = report_chosen cs
-report_chosen (report_as report.Text ∷ cs) = refl
-report_chosen (report_as report.Json ∷ cs) = refl
-report_chosen (report_as report.Csv ∷ cs) = refl
+report_chosen (report_as (report.Lines line.Text) ∷ cs) = refl
+report_chosen (report_as report.Objects ∷ cs) = refl
+report_chosen (report_as (report.Lines line.Csv) ∷ cs) = refl
 report_chosen (sizes ∷ cs) = report_chosen cs
 
 sizes_chosen : (cs : List Choice) → bytes_eq (unwrap_or (chosen (codes "sizes") cs) (codes "false")) (codes "true") ≡ has_name (codes "sizes") cs

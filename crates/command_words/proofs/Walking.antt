@@ -7,10 +7,11 @@ use Rattle.clap.specs.Simple.{Shape, built, filled, names_of, new_shape, with_in
 use Rattle.clap.proofs.OnLiterals.{clap_on_literals}
 use Rattle.command_words.specs.declared.names.CommandName.{CommandName}
 use Rattle.command_words.specs.declared.names.CommandName.TheVariants.{Watch, Rewrite, Drill}
-use Rattle.command_words.specs.declared.request.StreamForm.{StreamForm}
-use Rattle.command_words.specs.declared.request.StreamForm.TheVariants as stream
-use Rattle.command_words.specs.declared.request.ReportForm.{ReportForm}
-use Rattle.command_words.specs.declared.request.ReportForm.TheVariants as report
+use Rattle.forms.specs.declared.StreamForm.{StreamForm}
+use Rattle.forms.specs.declared.StreamForm.TheVariants as stream
+use Rattle.forms.specs.declared.ReportForm.{ReportForm}
+use Rattle.forms.specs.declared.LineForm.TheVariants as line
+use Rattle.forms.specs.declared.ReportForm.TheVariants as report
 use Rattle.command_words.specs.Commands.{app_of_command, flag_rule, place_rule, value_rule}
 use Rattle.command_words.specs.Meanings.{is_file}
 use Rattle.command_words.specs.Canonical.{Choice, form, report_as, sizes, option_word, option_words, report_word, stream_word}
@@ -75,9 +76,9 @@ stream_word_is_file stream.Text = refl
 stream_word_is_file stream.Json = refl
 
 pub report_word_is_file : (r : ReportForm) → is_file (report_word r) ≡ true
-report_word_is_file report.Text = refl
-report_word_is_file report.Json = refl
-report_word_is_file report.Csv = refl
+report_word_is_file (report.Lines line.Text) = refl
+report_word_is_file report.Objects = refl
+report_word_is_file (report.Lines line.Csv) = refl
 
 -- ---- one option
 

@@ -3,10 +3,11 @@ use Rattle.std.specs.Prelude.{◌≡◌, ◌≤◌, ℕ, Bool, true, false, List
 use Rattle.std.specs.List.{list_any}
 use Rattle.std.specs.Str.{bytes_eq}
 use Rattle.clap.specs.Walk.{Text}
-use Rattle.command_words.specs.declared.request.StreamForm.{StreamForm}
-use Rattle.command_words.specs.declared.request.StreamForm.TheVariants as stream
-use Rattle.command_words.specs.declared.request.ReportForm.{ReportForm}
-use Rattle.command_words.specs.declared.request.ReportForm.TheVariants as report
+use Rattle.forms.specs.declared.StreamForm.{StreamForm}
+use Rattle.forms.specs.declared.StreamForm.TheVariants as stream
+use Rattle.forms.specs.declared.ReportForm.{ReportForm}
+use Rattle.forms.specs.declared.LineForm.TheVariants as line
+use Rattle.forms.specs.declared.ReportForm.TheVariants as report
 use Rattle.command_words.specs.declared.request.Request.{Request}
 use Rattle.command_words.specs.declared.request.WordsFault.{WordsFault}
 use Rattle.command_words.specs.declared.request.WordsFault.TheVariants.{Memory}
@@ -33,9 +34,9 @@ stream_word stream.Json = codes "json"
 
 -- the word for a form of the report
 abbrev pub report_word : ReportForm → Text
-report_word report.Text = codes "text"
-report_word report.Json = codes "json"
-report_word report.Csv = codes "csv"
+report_word (report.Lines line.Text) = codes "text"
+report_word report.Objects = codes "json"
+report_word (report.Lines line.Csv) = codes "csv"
 
 -- the name of an option
 abbrev pub name_of : Choice → Text
@@ -88,7 +89,7 @@ form_said (sizes ∷ rest) = form_said rest
 
 -- the form of the report that the options say, or text
 abbrev pub report_said : List Choice → ReportForm
-report_said [] = report.Text
+report_said [] = report.Lines line.Text
 report_said (form f ∷ rest) = report_said rest
 report_said (report_as r ∷ rest) = r
 report_said (sizes ∷ rest) = report_said rest

@@ -5,10 +5,11 @@ use Rattle.clap.specs.Words.{Row, Text, first_of}
 use Rattle.clap.specs.Walk.{is_empty}
 use Rattle.command_words.specs.declared.names.CommandName.{CommandName}
 use Rattle.command_words.specs.declared.names.CommandName.TheVariants as command
-use Rattle.command_words.specs.declared.request.StreamForm.{StreamForm}
-use Rattle.command_words.specs.declared.request.StreamForm.TheVariants as stream
-use Rattle.command_words.specs.declared.request.ReportForm.{ReportForm}
-use Rattle.command_words.specs.declared.request.ReportForm.TheVariants as report
+use Rattle.forms.specs.declared.StreamForm.{StreamForm}
+use Rattle.forms.specs.declared.StreamForm.TheVariants as stream
+use Rattle.forms.specs.declared.ReportForm.{ReportForm}
+use Rattle.forms.specs.declared.LineForm.TheVariants as line
+use Rattle.forms.specs.declared.ReportForm.TheVariants as report
 use Rattle.command_words.specs.declared.request.Watch.{Watch}
 use Rattle.command_words.specs.declared.request.Request.{Request}
 use Rattle.command_words.specs.declared.request.Request.TheVariants as request
@@ -57,9 +58,9 @@ stream_form_of word = if bytes_eq word (codes "text") then Some stream.Text
 
 -- the form of a report that the word names
 abbrev pub report_form_of : Text → Option ReportForm
-report_form_of word = if bytes_eq word (codes "text") then Some report.Text
-    else (if bytes_eq word (codes "json") then Some report.Json
-    else (if bytes_eq word (codes "csv") then Some report.Csv else None))
+report_form_of word = if bytes_eq word (codes "text") then Some (report.Lines line.Text)
+    else (if bytes_eq word (codes "json") then Some report.Objects
+    else (if bytes_eq word (codes "csv") then Some (report.Lines line.Csv) else None))
 
 -- ---- what the arguments mean that stand in the words
 

@@ -12,4 +12,4 @@ mod tests;
 mod values;
 
 pub use reading::read_words;
-pub use request::{ReportForm, Request, StreamForm, Watch, WordsFault};
+pub use request::{Request, Watch, WordsFault};

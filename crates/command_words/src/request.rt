@@ -1,5 +1,7 @@
 // What the words ask for.
 
+use forms::{ReportForm, StreamForm};
+
 /// Why words were refused.
 #[derive(Clone, Copy, Debug, PartialEq, Eq)]
 pub enum WordsFault {
@@ -7,21 +9,6 @@ pub enum WordsFault {
     Usage,
     /// Memory ran out.
     Memory,
-}
-
-/// How the stream is written.
-#[derive(Clone, Copy, Debug, PartialEq, Eq)]
-pub enum StreamForm {
-    Text,
-    Json,
-}
-
-/// How the report is written.
-#[derive(Clone, Copy, Debug, PartialEq, Eq)]
-pub enum ReportForm {
-    Text,
-    Json,
-    Csv,
 }
 
 /// A watch: the names of its two files and its options.

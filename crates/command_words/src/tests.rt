@@ -1,5 +1,6 @@
 //! Words of the command line, accepted and refused.
-use crate::{ReportForm, Request, StreamForm, Watch, WordsFault, read_words};
+use crate::{Request, Watch, WordsFault, read_words};
+use forms::{LineForm, ReportForm, StreamForm};
 use std::alloc::Global;
 use std::test::Fail;
 
@@ -25,10 +26,10 @@ fn watch_of(form: StreamForm, report: ReportForm, sizes: bool) -> Request<'stati
 
 #[test]
 fn accepts_watches(rt: HostRuntime) -> Result<(), Fail> {
-    let plain = watch_of(StreamForm::Text, ReportForm::Text, false);
-    let with_sizes = watch_of(StreamForm::Text, ReportForm::Text, true);
-    let in_json = watch_of(StreamForm::Json, ReportForm::Text, false);
-    let as_csv = watch_of(StreamForm::Json, ReportForm::Csv, true);
+    let plain = watch_of(StreamForm::Text, ReportForm::Lines(LineForm::Text), false);
+    let with_sizes = watch_of(StreamForm::Text, ReportForm::Lines(LineForm::Text), true);
+    let in_json = watch_of(StreamForm::Json, ReportForm::Lines(LineForm::Text), false);
+    let as_csv = watch_of(StreamForm::Json, ReportForm::Lines(LineForm::Csv), true);
     for (line, request) in [
         ("watch O Q", plain),
         ("watch O Q --form text --report text", plain),

@@ -5,8 +5,9 @@ ghost use Rattle.command_words.specs.Meanings.{IsWithinLimits, drill_in, file_in
 
 use crate::names::CommandName;
 use crate::numbers::read_number;
-use crate::request::{ReportForm, Request, StreamForm, Watch};
+use crate::request::{Request, Watch};
 use clap::ArgMatches;
+use forms::{LineForm, ReportForm, StreamForm};
 
 /// The largest seed of a drill.
 const MAX_SEED: u32 = 2_147_483_647;
@@ -80,9 +81,9 @@ fn report_form_of(word: &str) -> Option<ReportForm>
     ensures { result ≡ report_form_of word.now }
 {
     match word {
-        "text" => Some(ReportForm::Text),
-        "json" => Some(ReportForm::Json),
-        "csv" => Some(ReportForm::Csv),
+        "text" => Some(ReportForm::Lines(LineForm::Text)),
+        "json" => Some(ReportForm::Objects),
+        "csv" => Some(ReportForm::Lines(LineForm::Csv)),
         _ => None,
     }
 }

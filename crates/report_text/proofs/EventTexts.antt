@@ -11,8 +11,8 @@ use Rattle.dl_syntax.specs.Rows.{Relation}
 use Rattle.tcq_syntax.specs.Tcq.{Tcq}
 use Rattle.report_text.specs.declared.item.Item.{Item}
 use Rattle.report_text.specs.declared.item.Item.TheVariants.{Answer}
-use Rattle.report_text.specs.declared.line.LineForm.{LineForm}
-use Rattle.report_text.specs.declared.line.LineForm.TheVariants as form
+use Rattle.forms.specs.declared.LineForm.{LineForm}
+use Rattle.forms.specs.declared.LineForm.TheVariants as form
 use Rattle.report_text.specs.Names.{Text, name_of_query, query_name}
 use Rattle.report_text.specs.Lines.{line_in, answers_in, size_in}
 use Rattle.report_text.specs.Objects.{size_at}

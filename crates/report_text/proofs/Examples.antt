@@ -7,8 +7,8 @@ use Rattle.dl_syntax.specs.Ontology.{Declared}
 use Rattle.dl_syntax.specs.Rows.{Relation}
 use Rattle.tcq_syntax.specs.Tcq.{Tcq}
 use Rattle.report_text.specs.declared.event.Event.TheVariants.{Accepted}
-use Rattle.report_text.specs.declared.event.ReportForm.TheVariants.{Lines, Objects}
-use Rattle.report_text.specs.declared.line.LineForm.TheVariants as form
+use Rattle.forms.specs.declared.ReportForm.TheVariants.{Lines, Objects}
+use Rattle.forms.specs.declared.LineForm.TheVariants as form
 use Rattle.report_text.specs.Rows.{row}
 use Rattle.report_text.specs.Objects.{object_line, accepted_data, answers_data, query_data, tuples_data, tuple_data, name_data}
 use Rattle.report_text.specs.Events.{event_text}

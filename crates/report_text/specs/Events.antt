@@ -10,8 +10,8 @@ use Rattle.report_text.specs.declared.item.Item.{Item}
 use Rattle.report_text.specs.declared.item.Item.TheVariants as item
 use Rattle.report_text.specs.declared.event.Event.{Event}
 use Rattle.report_text.specs.declared.event.Event.TheVariants.{Accepted, Refused, End}
-use Rattle.report_text.specs.declared.event.ReportForm.{ReportForm}
-use Rattle.report_text.specs.declared.event.ReportForm.TheVariants as form
+use Rattle.forms.specs.declared.ReportForm.{ReportForm}
+use Rattle.forms.specs.declared.ReportForm.TheVariants as form
 use Rattle.report_text.specs.Names.{Text, AreNamed, AreSpelled, IsSpelledCause}
 use Rattle.report_text.specs.Lines.{heading_text, line_in}
 use Rattle.report_text.specs.Objects.{size_at, object_text}

@@ -8,8 +8,8 @@ use Rattle.report_text.specs.declared.item.Cause.{Cause}
 use Rattle.report_text.specs.declared.item.Cause.TheVariants.{TooLong, Malformed, Unknown, WrongKind, Undeclared, TooManyFacts, Contradiction}
 use Rattle.report_text.specs.declared.item.Item.{Item}
 use Rattle.report_text.specs.declared.item.Item.TheVariants.{Accepted, Answer, Kept, Refused, End}
-use Rattle.report_text.specs.declared.line.LineForm.{LineForm}
-use Rattle.report_text.specs.declared.line.LineForm.TheVariants as form
+use Rattle.forms.specs.declared.LineForm.{LineForm}
+use Rattle.forms.specs.declared.LineForm.TheVariants as form
 pub use Rattle.report_text.specs.Names.{Text, name_of_query, query_name, IsNamed, AreNamed, HasNames, AreSpelled, IsSpelledItem}
 use Rattle.report_text.specs.Rows.{heading_row, item_row, accepted_row, answer_rows, kept_row, refused_row, end_row}
 

@@ -7,12 +7,13 @@ ghost use Rattle.report_text.specs.Objects.{object_text};
 ghost use Rattle.report_text.specs.Events.{AreAnswered, EventHasNames, event_text, items_of, query_items, report_heading_text};
 
 use crate::item::Cause;
-use crate::line::{LineForm, append_answers, append_kept, append_refused, append_two, heading};
+use crate::line::{append_answers, append_kept, append_refused, append_two, heading};
 use crate::object::{append_accepted_object, append_end_object, append_refused_object, size_of};
 use crate::row::{
     append_accepted_row, append_answer_rows, append_end_row, append_kept_row, append_refused_row,
 };
 use dl_syntax::{Items, Memory, Ontology, Tuples};
+use forms::{LineForm, ReportForm};
 use std::alloc::Global;
 use tcq_syntax::Query;
 
@@ -48,15 +49,6 @@ struct Told {
     form: LineForm,
     line: u64,
     number: u64,
-}
-
-/// How a report is written.
-#[derive(Clone, Copy, PartialEq, Eq, Debug)]
-pub enum ReportForm {
-    /// A line for each item of an event.
-    Lines(LineForm),
-    /// A JSON object on a line of its own for each event.
-    Objects,
 }
 
 /// What stands before the first event.

@@ -12,7 +12,7 @@ mod row;
 #[cfg(test)]
 mod tests;
 
-pub use event::{Event, ReportForm, append_event, render_object, report_heading};
+pub use event::{Event, append_event, render_object, report_heading};
 pub use item::{Cause, Item};
-pub use line::{LineForm, heading, render_line};
+pub use line::{heading, render_line};
 pub use query::{append_cq, append_leaf, render_cq};

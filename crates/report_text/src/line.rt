@@ -7,17 +7,9 @@ use crate::item::{Cause, Item};
 use crate::numbers::append_number;
 use crate::row::append_item_row;
 use dl_syntax::{IndId, Kind, Memory, Ontology, Tuples};
+use forms::LineForm;
 use std::alloc::Global;
 use tcq_syntax::Query;
-
-/// How the lines of a report are written.
-#[derive(Clone, Copy, PartialEq, Eq, Debug)]
-pub enum LineForm {
-    /// Words and numbers, separated by spaces.
-    Text,
-    /// Rows of five fields: line, event, number, name, detail.
-    Csv,
-}
 
 /// What stands before the first line.
 #[tactic(auto, unfolding(crate::specs::Rows::row, csv::specs::Writing::fields_text, csv::specs::Writing::is_blank))]

@@ -4,10 +4,11 @@ ghost use Rattle.dl_syntax.specs.Ontology.{nothing_declared};
 ghost use Rattle.report_text.specs.Events.{HasAnswers, IsSpelledEvent};
 
 use crate::{
-    Cause, Event, Item, LineForm, ReportForm, append_event, heading, render_cq, render_line,
-    render_object, report_heading,
+    Cause, Event, Item, append_event, heading, render_cq, render_line, render_object,
+    report_heading,
 };
 use dl_syntax::{Atom, Cq, Items, Kind, Memory, Name, Ontology, RoleId, Term, Tuples};
+use forms::{LineForm, ReportForm};
 use std::alloc::Global;
 use tcq_syntax::{Node, Query};
 

@@ -18,8 +18,8 @@ use Rattle.text_scan.proofs.Spellings.{are_spelled}
 use Rattle.dl_syntax.specs.declared.names.Kind.TheVariants.{Individual}
 use Rattle.dl_syntax.specs.Names.{IsName}
 use Rattle.dl_syntax.specs.Ontology.{Declared, is_declared}
-use Rattle.snapshot_reader.specs.declared.Form.{Form}
-use Rattle.snapshot_reader.specs.declared.Form.TheVariants.{Text, Json}
+use Rattle.forms.specs.declared.StreamForm.{StreamForm}
+use Rattle.forms.specs.declared.StreamForm.TheVariants.{Text, Json}
 use Rattle.snapshot_reader.specs.Written.{Written, unary, binary, predicate, arguments, Line, blank, malformed, writes, Symbol, token, at_fault, symbol, last_symbol, symbols, facts_written, symbols_write, is_name, name_in, fact_of_items, fact_in, facts_in, facts_of, json_writes, line_writes, ◌>>=◌}
 use Rattle.snapshot_reader.specs.Said.{is_name_of, is_fitting, first_unknown, first_misused, first_undeclared, most_facts, Cause, unknown, wrong_kind, undeclared, too_many_facts, is_malformed, cause_of, fact_of, distinct, refused, says, facts_say, line_says, said}
 use Rattle.snapshot_reader.specs.Laws.{CauseIsSpelled, RefusesNames}
@@ -142,7 +142,7 @@ json_named line =
     cond_both (list_all is_blank line) _ _ WritesNames (λ blanks. tt)
     (λ some. cond_both (is_utf8 line) _ _ WritesNames (λ text. or_malformed (read line >>= facts_of) (each_behind (All AreNames) facts_of (read line) value_named)) (λ other. tt))
 
-line_named : (form : Form) (line : List ℕ) → WritesNames (line_writes form line)
+line_named : (form : StreamForm) (line : List ℕ) → WritesNames (line_writes form line)
 unfolding line_writes
 line_named Text line = text_named (symbols (lexed 0 0 line)) (symbols_spelled (lexed 0 0 line).tokens (lexed 0 0 line).fault (are_spelled 0 0 line))
 line_named Json line = json_named line

@@ -8,7 +8,7 @@ use Rattle.dl_syntax.specs.declared.facts.Fact.TheVariants as fact
 use Rattle.dl_syntax.specs.Names.{IsName}
 use Rattle.dl_syntax.specs.Snapshots.{IsSnapshot}
 use Rattle.dl_syntax.specs.Ontology.{Declared}
-use Rattle.snapshot_reader.specs.declared.Form.{Form}
+use Rattle.forms.specs.declared.StreamForm.{StreamForm}
 use Rattle.snapshot_reader.specs.Said.{Cause, is_malformed, unknown, wrong_kind, undeclared, too_many_facts, refused, says, said}
 
 -- a cause with a name has one that is spelled as a name
@@ -21,7 +21,7 @@ CauseIsSpelled too_many_facts = Unit {0}
 
 -- the cause that a line is refused for is spelled so, in each form
 abbrev pub RefusesNames : Type 0
-RefusesNames = (o : Declared) (form : Form) (line : List ℕ) (cause : Cause)
+RefusesNames = (o : Declared) (form : StreamForm) (line : List ℕ) (cause : Cause)
     → said o form line ≡ refused cause → CauseIsSpelled cause
 
 -- an individual that the ontology declares
@@ -37,10 +37,10 @@ IsDeclared o (fact.Role p x y) =
 
 -- what a line says is over declared predicates and individuals, in each form
 abbrev pub SaidAreDeclared : Type 0
-SaidAreDeclared = (o : Declared) (form : Form) (line : List ℕ) (facts : List Fact)
+SaidAreDeclared = (o : Declared) (form : StreamForm) (line : List ℕ) (facts : List Fact)
     → said o form line ≡ says facts → All (IsDeclared o) facts
 
 -- what a line says is a snapshot, without repeats and nulls, in each form
 abbrev pub SaidAreDistinct : Type 0
-SaidAreDistinct = (o : Declared) (form : Form) (line : List ℕ) (facts : List Fact)
+SaidAreDistinct = (o : Declared) (form : StreamForm) (line : List ℕ) (facts : List Fact)
     → said o form line ≡ says facts → IsSnapshot facts

@@ -10,7 +10,7 @@ use Rattle.dl_syntax.specs.declared.facts.Element.TheVariants.{Ind, Null}
 use Rattle.dl_syntax.specs.declared.facts.Fact.{Fact}
 use Rattle.dl_syntax.specs.declared.facts.Fact.TheVariants as fact
 use Rattle.dl_syntax.specs.Ontology.{Declared, number_of, is_declared}
-use Rattle.snapshot_reader.specs.declared.Form.{Form}
+use Rattle.forms.specs.declared.StreamForm.{StreamForm}
 use Rattle.snapshot_reader.specs.Written.{Written, unary, binary, predicate, arguments, Line, blank, malformed, writes, line_writes}
 pub use Rattle.snapshot_reader.specs.Written.{◌>>=◌}
 
@@ -102,5 +102,5 @@ line_says o malformed = refused is_malformed
 line_says o (writes facts) = facts_say o facts
 
 -- what a line of this form says
-unfoldable pub said : Declared → Form → List ℕ → Said
+unfoldable pub said : Declared → StreamForm → List ℕ → Said
 said o form line = line_says o (line_writes form line)

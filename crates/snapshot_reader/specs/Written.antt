@@ -11,8 +11,8 @@ use Rattle.text_scan.specs.declared.TokenKind.TheVariants.{Name, Open, Close, Co
 use Rattle.text_scan.specs.Bytes.{is_blank}
 use Rattle.text_scan.specs.Lexing.{Lexeme, Lexed, lexed}
 use Rattle.dl_syntax.specs.Names.{is_letter, is_name_byte}
-use Rattle.snapshot_reader.specs.declared.Form.{Form}
-use Rattle.snapshot_reader.specs.declared.Form.TheVariants.{Text, Json}
+use Rattle.forms.specs.declared.StreamForm.{StreamForm}
+use Rattle.forms.specs.declared.StreamForm.TheVariants.{Text, Json}
 
 -- a predicate of one or of two arguments, by names
 pub data Written : Type 0 where
@@ -122,6 +122,6 @@ json_writes line =
 -- ---- a line
 
 -- what a line of this form writes
-unfoldable pub line_writes : Form → List ℕ → Line
+unfoldable pub line_writes : StreamForm → List ℕ → Line
 line_writes Text line = symbols_write (symbols (lexed 0 0 line))
 line_writes Json line = json_writes line

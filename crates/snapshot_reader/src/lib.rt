@@ -15,15 +15,6 @@ mod plain_lines;
 use dl_syntax::{Memory, Name, Snapshot};
 pub use lines::read_snapshot;
 
-/// How a line is written.
-#[derive(Clone, Copy, PartialEq, Eq, Debug)]
-pub enum Form {
-    /// The word `snap` and then facts, as `A(a)` and `R(a,b)`.
-    Text,
-    /// A JSON object whose member `facts` is a list of them, as `["A","a"]` and `["R","a","b"]`.
-    Json,
-}
-
 /// What a line gives.
 #[derive(Debug, Drop)]
 pub enum Reading {

@@ -10,8 +10,9 @@ ghost use Rattle.snapshot_reader.specs.Cursor.{symbols_from, facts_from, IsToken
 use crate::facts::{NextFact, name_of, next_fact};
 use crate::hearing::Heard;
 use crate::json_lines::read_json;
-use crate::{Form, Reading, SnapFault};
+use crate::{Reading, SnapFault};
 use dl_syntax::Ontology;
+use forms::StreamForm;
 use std::alloc::Global;
 use text_scan::{Next, next_token};
 
@@ -71,13 +72,13 @@ fn read_text(alloc: Global, line: &[u8], ontology: &Ontology) -> Result<Reading,
 pub fn read_snapshot(
     alloc: Global,
     line: &[u8],
-    form: Form,
+    form: StreamForm,
     ontology: &Ontology,
 ) -> Result<Reading, SnapFault>
     ensures { Tells result (said ontology.now form line.now) }
 {
     match form {
-        Form::Text => read_text(alloc, line, ontology),
-        Form::Json => read_json(alloc, line, ontology),
+        StreamForm::Text => read_text(alloc, line, ontology),
+        StreamForm::Json => read_json(alloc, line, ontology),
     }
 }

@@ -1,5 +1,6 @@
-use crate::{Form, Reading, SnapFault, read_snapshot};
+use crate::{Reading, SnapFault, read_snapshot};
 use dl_syntax::{ConceptId, Element, Fact, IndId, Kind, Memory, Ontology, RoleId, is_name};
+use forms::StreamForm;
 use std::alloc::Global;
 use std::test::Fail;
 
@@ -47,7 +48,7 @@ fn told(fault: &SnapFault) -> (&str, &[u8]) {
 fn blames(
     ontology: &Ontology,
     alloc: Global,
-    form: Form,
+    form: StreamForm,
     line: &[u8],
     cause: &str,
     name: &[u8],
@@ -63,7 +64,7 @@ fn blames(
 
 /// Whether the line in JSON form gives these facts.
 fn gives(ontology: &Ontology, alloc: Global, line: &[u8], facts: &[Fact]) -> bool {
-    match read_snapshot(alloc, line, Form::Json, ontology) {
+    match read_snapshot(alloc, line, StreamForm::Json, ontology) {
         Ok(Reading::Facts(snapshot)) => snapshot.facts() == facts,
         _ => false,
     }
@@ -73,7 +74,8 @@ fn gives(ontology: &Ontology, alloc: Global, line: &[u8], facts: &[Fact]) -> boo
 fn reads_facts_once(rt: HostRuntime) -> Result<(), Fail> {
     let ontology = servers(rt.alloc())?;
     let line = b" snap Failed(s1)\truns ( s1 , s2 ) Failed(s1)# repeated\r";
-    let Ok(Reading::Facts(snapshot)) = read_snapshot(rt.alloc(), line, Form::Text, &ontology) else {
+    let Ok(Reading::Facts(snapshot)) = read_snapshot(rt.alloc(), line, StreamForm::Text, &ontology)
+    else {
         return Err("no snapshot")?;
     };
     let (first, second) = (Element::Ind(IndId(0)), Element::Ind(IndId(1)));
@@ -90,7 +92,7 @@ fn skips_what_says_nothing(rt: HostRuntime) -> Result<(), Fail> {
     let ontology = servers(rt.alloc())?;
     let lines: [&[u8]; 3] = [b"", b" \r", b"\t# start"];
     for line in lines {
-        let reading = read_snapshot(rt.alloc(), line, Form::Text, &ontology);
+        let reading = read_snapshot(rt.alloc(), line, StreamForm::Text, &ontology);
         assert!(rt; matches!(&reading, Ok(Reading::Skip)));
     }
     Ok(())
@@ -112,7 +114,7 @@ fn names_the_first_cause(rt: HostRuntime) -> Result<(), Fail> {
         (b"Failed(s1)", "malformed", b""),
     ];
     for (line, cause, name) in cases {
-        assert!(rt; blames(&ontology, rt.alloc(), Form::Text, line, cause, name));
+        assert!(rt; blames(&ontology, rt.alloc(), StreamForm::Text, line, cause, name));
     }
     Ok(())
 }
@@ -124,14 +126,14 @@ fn counts_repeated_facts(rt: HostRuntime) -> Result<(), Fail> {
     let Ok(Reading::Facts(snapshot)) = read_snapshot(
         rt.alloc(),
         most.as_slice(),
-        Form::Text,
+        StreamForm::Text,
         &ontology,
     ) else {
         return Err("no snapshot")?;
     };
     assert_eq!(rt; snapshot.facts().len(), 1);
     let more = repeated(rt.alloc(), 65_537)?;
-    let reading = read_snapshot(rt.alloc(), more.as_slice(), Form::Text, &ontology);
+    let reading = read_snapshot(rt.alloc(), more.as_slice(), StreamForm::Text, &ontology);
     assert!(rt; matches!(&reading, Err(SnapFault::TooManyFacts)));
     Ok(())
 }
@@ -163,7 +165,7 @@ fn reads_json(rt: HostRuntime) -> Result<(), Fail> {
 #[test]
 fn skips_blanks_in_json(rt: HostRuntime) -> Result<(), Fail> {
     let ontology = servers(rt.alloc())?;
-    let blank = read_snapshot(rt.alloc(), b" \t\r\n", Form::Json, &ontology);
+    let blank = read_snapshot(rt.alloc(), b" \t\r\n", StreamForm::Json, &ontology);
     assert!(rt; matches!(&blank, Ok(Reading::Skip)));
     Ok(())
 }
@@ -182,7 +184,7 @@ fn names_the_first_cause_in_json(rt: HostRuntime) -> Result<(), Fail> {
         ),
     ];
     for (line, cause, name) in cases {
-        assert!(rt; blames(&ontology, rt.alloc(), Form::Json, line, cause, name));
+        assert!(rt; blames(&ontology, rt.alloc(), StreamForm::Json, line, cause, name));
     }
     Ok(())
 }
@@ -207,7 +209,16 @@ fn refuses_what_is_no_list_of_facts(rt: HostRuntime) -> Result<(), Fail> {
         b"# x",
     ];
     for line in lines {
-        assert!(rt; blames(&ontology, rt.alloc(), Form::Json, line, "malformed", b""));
+        assert!(rt;
+            blames(
+                &ontology,
+                rt.alloc(),
+                StreamForm::Json,
+                line,
+                "malformed",
+                b""
+            )
+        );
     }
     Ok(())
 }
