@@ -12,7 +12,7 @@ use Rattle.dl_syntax.specs.declared.facts.Element.TheVariants.{Ind}
 use Rattle.dl_syntax.specs.declared.facts.Fact.{Fact}
 use Rattle.dl_syntax.specs.declared.facts.Fact.TheVariants as fact
 use Rattle.dl_syntax.specs.Ontology.{Declared, names_of}
-use Rattle.snapshot_reader.specs.declared.Form.{Form}
+use Rattle.forms.specs.declared.StreamForm.{StreamForm}
 use Rattle.snapshot_reader.specs.Written.{Written, unary, binary, Line, blank, malformed, writes, line_writes}
 use Rattle.snapshot_reader.specs.Said.{◌>>=◌, number_of, individual_of, fact_of, same_fact, with_fact, distinct, Cause, refused, says, cause_of, facts_say, line_says, said}
 use Rattle.monitor_core.specs.Answering.{IsOver, IsOverElement, AreOver}
@@ -82,6 +82,6 @@ line_over o blank facts is = cc
 line_over o malformed facts is = cc
 line_over o (writes ws) facts is = facts_over o ws facts is
 
-pub says_over : (o : Declared) (form : Form) (line : List ℕ) (facts : List Fact) → said o form line ≡ says facts → AreOver o facts
+pub says_over : (o : Declared) (form : StreamForm) (line : List ℕ) (facts : List Fact) → said o form line ≡ says facts → AreOver o facts
 unfolding said
 says_over o form line facts is = line_over o (line_writes form line) facts is

@@ -4,7 +4,7 @@ use Rattle.dl_syntax.specs.Ontology.{Declared}
 use Rattle.tcq_syntax.specs.Tcq.{Tcq}
 use Rattle.tcq_reader.specs.Reading.{SaysQueries}
 use Rattle.tcq_reader.proofs.NamedLemmas.{said_are_named}
-use Rattle.snapshot_reader.specs.declared.Form.{Form}
+use Rattle.forms.specs.declared.StreamForm.{StreamForm}
 use Rattle.snapshot_reader.specs.Said.{Said, nothing, says, said, is_malformed, unknown, wrong_kind, undeclared, too_many_facts}
 use Rattle.snapshot_reader.specs.Said.{Cause as SaidCause, refused as is_refused}
 use Rattle.snapshot_reader.specs.Laws.{CauseIsSpelled}
@@ -30,5 +30,5 @@ by_said (says facts) cause law is = absurd is
 by_said (is_refused c) cause law is = subst IsSpelledCause (sym is) (same_spelling c (law c refl))
 
 -- the cause that a line is refused for has a name where it has one
-pub cause_spelled : (o : Declared) (form : Form) (line : List ℕ) (cause : Cause) → IsRefusedFor (said o form line) cause → IsSpelledCause cause
+pub cause_spelled : (o : Declared) (form : StreamForm) (line : List ℕ) (cause : Cause) → IsRefusedFor (said o form line) cause → IsSpelledCause cause
 cause_spelled o form line cause is = by_said (said o form line) cause (λ c same. refuses_names o form line c same) is

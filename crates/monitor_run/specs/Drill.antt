@@ -2,9 +2,9 @@
 use Rattle.std.specs.Prelude.{◌≡◌, ℕ, false, List, [], ◌∷◌, ◌++◌}
 use Rattle.edge_io.specs.Lines.{items}
 use Rattle.report_text.specs.declared.event.Event.{Event}
-use Rattle.report_text.specs.declared.event.ReportForm.TheVariants as report
-use Rattle.report_text.specs.declared.line.LineForm.TheVariants as line
-use Rattle.snapshot_reader.specs.declared.Form.TheVariants as form
+use Rattle.forms.specs.declared.ReportForm.TheVariants as report
+use Rattle.forms.specs.declared.LineForm.TheVariants as line
+use Rattle.forms.specs.declared.StreamForm.TheVariants as form
 use Rattle.monitor_core.specs.Setting.{Setting}
 use Rattle.stream_report.specs.Told.{Step, Manner, Report}
 use Rattle.monitor_run.specs.declared.options.Options.{Options}

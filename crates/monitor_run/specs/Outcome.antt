@@ -3,7 +3,7 @@ use Rattle.std.specs.Prelude.{◌≡◌, List}
 use Rattle.dl_syntax.specs.declared.facts.Fact.{Fact}
 use Rattle.dl_syntax.specs.Ontology.{Declared}
 use Rattle.edge_io.specs.Lines.{Item as StreamLine, text, too_long}
-use Rattle.snapshot_reader.specs.declared.Form.{Form}
+use Rattle.forms.specs.declared.StreamForm.{StreamForm}
 use Rattle.snapshot_reader.specs.Said.{Cause as SaidCause, is_malformed, unknown, wrong_kind, undeclared, too_many_facts, Said, nothing, says, said}
 use Rattle.snapshot_reader.specs.Said.{refused as is_refused}
 use Rattle.report_text.specs.declared.item.Cause.{Cause}
@@ -36,6 +36,6 @@ SaidHas ontology (is_refused cause) outcome = outcome ≡ refused (cause_of caus
 SaidHas ontology (says snapshot) outcome = SnapshotHas ontology snapshot outcome
 
 -- the line, in this form, has this outcome
-abbrev pub HasOutcome : Declared → Form → StreamLine → Outcome → Type 0
+abbrev pub HasOutcome : Declared → StreamForm → StreamLine → Outcome → Type 0
 HasOutcome ontology form too_long outcome = outcome ≡ refused TooLong
 HasOutcome ontology form (text line) outcome = SaidHas ontology (said ontology form line) outcome

@@ -4,7 +4,7 @@ use Rattle.dl_syntax.specs.Ontology.{Declared}
 use Rattle.tcq_syntax.specs.Histories.{History}
 use Rattle.edge_io.specs.Lines.{Item as StreamLine}
 use Rattle.report_text.specs.declared.event.Event.{Event}
-use Rattle.snapshot_reader.specs.declared.Form.{Form}
+use Rattle.forms.specs.declared.StreamForm.{StreamForm}
 use Rattle.monitor_core.specs.Setting.{Setting}
 use Rattle.stream_report.specs.Laws as streams
 use Rattle.stream_maker.specs.Snapshots.{stream_text}
@@ -21,7 +21,7 @@ use Rattle.monitor_run.specs.Told.{TellsLine}
 -- a line has one outcome
 abbrev pub OneOutcome : Type 0
 OneOutcome =
-    (ontology : Declared) (form : Form) (item : StreamLine) (one other : Outcome) →
+    (ontology : Declared) (form : StreamForm) (item : StreamLine) (one other : Outcome) →
     HasOutcome ontology form item one → HasOutcome ontology form item other → one ≡ other
 
 -- one thing is told of a line, and one history comes after it

@@ -15,9 +15,9 @@ use crate::options::Options;
 use crate::telling::{ask, gather, refusals};
 use dl_syntax::Memory;
 use edge_io::{PlainSource, Sink};
+use forms::{LineForm, ReportForm, StreamForm};
 use monitor_core::Monitor;
-use report_text::{Event, LineForm, ReportForm};
-use snapshot_reader::Form;
+use report_text::Event;
 use std::alloc::Global;
 use stream_report::{Ending, GivenLine, Reporter, report_stream};
 
@@ -40,7 +40,7 @@ fn plain() -> Options
     ensures { result ≡ plain }
 {
     Options {
-        form: Form::Text,
+        form: StreamForm::Text,
         report: ReportForm::Lines(LineForm::Text),
         sizes: false,
     }
