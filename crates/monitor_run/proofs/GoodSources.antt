@@ -72,7 +72,7 @@ module _ (is_ontology is_queries : List ℕ → Type 0) (one_ontology : (a b : L
 -- ---- files
 
 -- a file has one text
-one_text : (held : Option Store) (files : Store) (name one other : List ℕ) → held ≡ Some files → HasText held name one → HasText held name other → one ≡ other
+pub one_text : (held : Option Store) (files : Store) (name one other : List ℕ) → held ≡ Some files → HasText held name one → HasText held name other → one ≡ other
 one_text held files name one other told p q =
     let here : HasText (Some files) name one = subst (λ (h : Option Store). HasText h name one) told p in
     let there : HasText (Some files) name other = subst (λ (h : Option Store). HasText h name other) told q in

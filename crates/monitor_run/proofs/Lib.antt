@@ -20,3 +20,4 @@ mod GoodSources
 mod OneReport
 mod Completing
 mod Leaving
+mod Limits

@@ -1,13 +1,17 @@
 -- Laws of runs.
-use Rattle.std.specs.Prelude.{◌≡◌, ◌⊎◌, ℕ, ◌≤◌, ◌^◌, List, Some, length}
+use Rattle.std.specs.Prelude.{◌≡◌, ◌≢◌, ◌⊎◌, ◌↔◌, ℕ, ◌<◌, ◌≤◌, ◌^◌, List, ◌++◌, Some, length}
 use Rattle.edge_io.specs.Causes.{Rose}
 use Rattle.edge_io.specs.Held.{Store}
+use Rattle.edge_io.specs.Lines.{whole_items}
 use Rattle.command_words.specs.Meanings.{Watching, watch, rewrite, drill, meaning_of_words}
 use Rattle.monitor_core.specs.Setting.{Setting}
+use Rattle.stream_report.specs.Told.{Part}
 use Rattle.stream_report.specs.Outside.{SinkTold, Outside}
 use Rattle.monitor_run.specs.declared.ending.Status.{Status}
-use Rattle.monitor_run.specs.declared.ending.Status.TheVariants.{Done, Usage, BadOntology, BadQueries, Memory}
+use Rattle.monitor_run.specs.declared.ending.Status.TheVariants.{Done, Usage, BadOntology, BadQueries, Memory, StreamLimit}
 use Rattle.monitor_run.specs.Jobs.{FileNames}
+use Rattle.monitor_run.specs.Report.{start, watching}
+use Rattle.monitor_run.specs.Task.{options_of}
 use Rattle.monitor_run.specs.Running.{MadeSay, Ran}
 use Rattle.monitor_run.specs.Sources.{nothing_more, Opens, FilesSay}
 
@@ -93,3 +97,27 @@ RefusalLeaves =
     (status : Status) (words : List (List ℕ)) (before now : Outside) (err_before err_now : SinkTold) →
     Ran status words before now err_before err_now → (status ≡ BadOntology) ⊎ (status ≡ BadQueries) →
     (now.files.held ≡ before.files.held) × (now.ports.input ≡ before.ports.input) × (now.ports.out ≡ before.ports.out)
+
+-- a watch whose files, input and output are told took these bytes and wrote these
+pub record Watches (words : List (List ℕ)) (before now : Outside) (taken wrote : List ℕ) : Type 0 where
+  pub asked : Watching
+  pub words_mean : meaning_of_words words ≡ Some (watch asked)
+  pub files : Store
+  pub held : before.files.held ≡ Some files
+  pub setting : Setting
+  pub opens : Opens nothing_more (FilesSay before.files.held (record { ontology = asked.ontology; queries = asked.queries })) setting
+  pub left : List ℕ
+  pub input_before : before.ports.input.left ≡ Some (taken ++ left)
+  pub input_now : now.ports.input.left ≡ Some left
+  pub got : List ℕ
+  pub out_before : before.ports.out.got ≡ Some got
+  pub out_now : now.ports.out.got ≡ Some (got ++ wrote)
+
+-- it ends at the limit exactly where more was taken and the report of the complete lines was written, but for want of memory
+abbrev pub LimitComesExactly : Type 0
+LimitComesExactly =
+    (status : Status) (words : List (List ℕ)) (before now : Outside) (err_before err_now : SinkTold) (taken wrote : List ℕ) →
+    Ran status words before now err_before err_now → (w : Watches words before now taken wrote) → status ≢ Memory →
+    ((status ≡ StreamLimit)
+    ↔ ((2 ^ 40 < length taken)
+    × Part (watching (record { setting = w.setting; options = options_of w.asked })) start (whole_items taken) wrote))

@@ -1,6 +1,7 @@
 //! Laws of runs and of their reports, each the contract of a function with nothing to do.
 ghost use Rattle.monitor_run.specs.Laws.{Completeness, RewritingCompleteness, DrillCompleteness};
 ghost use Rattle.monitor_run.specs.Laws.{DrillLeaves, RewritingLeaves, UsageLeaves, RefusalLeaves};
+ghost use Rattle.monitor_run.specs.Laws.{LimitComesExactly};
 ghost use Rattle.monitor_run.specs.ReportLaws.{OneOutcome, OneLine, OneTold, ToldJoined, ToldParts};
 ghost use Rattle.monitor_run.specs.ReportLaws.{OneReport, OnePart, BeginsPart, BeginsWhole};
 ghost use Rattle.monitor_run.specs.ReportLaws.{CutShort, LimitIsExact, OneRewriting, OneDrill};
@@ -61,8 +62,8 @@ pub fn cut_short()
     ensures { CutShort }
 {}
 
-/// A watch ends at the limit exactly where more was taken and the report of the complete lines was
-/// written, but for want of memory.
+/// The loop of a watch ends at the limit exactly where more was taken and the report of the complete
+/// lines was written, but for want of memory.
 pub fn limit_is_exact()
     ensures { LimitIsExact }
 {}
@@ -107,4 +108,10 @@ pub fn usage_leaves()
 /// A run whose sources are refused leaves the files, the input and the output as they were.
 pub fn refusal_leaves()
     ensures { RefusalLeaves }
+{}
+
+/// A watch ends at the stream's limit exactly where more was taken and the report of the complete
+/// lines was written, but for want of memory.
+pub fn limit_comes_exactly()
+    ensures { LimitComesExactly }
 {}
