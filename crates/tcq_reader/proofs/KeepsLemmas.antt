@@ -46,7 +46,8 @@ use Rattle.tcq_reader.proofs.BuiltStates.{atoms_read, built}
 use Rattle.tcq_reader.proofs.WholeTables.{Caps, table_caps, is_post_order}
 use Rattle.tcq_reader.proofs.LeafLemmas.{vars_same, body_length, few_seen}
 use Rattle.tcq_reader.proofs.HeadLemmas.{is_leaf}
-use Rattle.tcq_reader.proofs.Acts.{Follows, nodes_at_end}
+use Rattle.tcq_reader.proofs.Following.{Follows}
+use Rattle.tcq_reader.proofs.OuterActs.{nodes_at_end}
 
 abbrev pub NodeFits : ℕ → Node → Type 0
 NodeFits vars (node.Leaf q) = IsLeaf vars q

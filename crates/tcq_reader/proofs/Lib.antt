@@ -3,6 +3,9 @@ pub mod BuiltStates
 pub mod WholeTables
 pub mod LeafLemmas
 pub mod HeadLemmas
+pub mod Following
+pub mod OuterActs
+pub mod LeafActs
 pub mod Acts
 pub mod KeepsLemmas
 pub mod ReadingLemmas

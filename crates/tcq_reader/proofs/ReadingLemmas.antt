@@ -38,7 +38,8 @@ use Rattle.tcq_reader.specs.Faults.{has_too_many_nodes, kind_ahead, name_fault, 
 use Rattle.tcq_reader.specs.Reading.{most_bytes, line_of, fault_of, fault_in, SaysQueries, IsWrong, IsFault, Reads}
 use Rattle.tcq_reader.specs.Drafting.{Outcome, Gives, Stops, Free, GivesTo, StopsWith, Answers}
 use Rattle.tcq_reader.specs.Acting.{Build, nothing_built, acted, IsSound, EndsAt}
-use Rattle.tcq_reader.proofs.Acts.{at, base, Follows, Moves, Advances, token_advances, follows_start}
+use Rattle.tcq_reader.proofs.Following.{at, base, Follows, Moves, Advances}
+use Rattle.tcq_reader.proofs.Acts.{token_advances, follows_start}
 use Rattle.tcq_reader.proofs.KeepsLemmas.{NodeFits, Keeps, IfGives, token_keeps, is_sound, ends_at}
 
 -- ---- the kinds of faults that symbols have

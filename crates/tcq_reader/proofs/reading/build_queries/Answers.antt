@@ -9,7 +9,7 @@ use Rattle.tcq_grammar.specs.Texts.{marks_of}
 use Rattle.tcq_grammar.proofs.Whole.{next_mark, moved_true, moved_false}
 use Rattle.tcq_reader.specs.Drafting.{GivesTo, Answers}
 use Rattle.tcq_reader.specs.Acting.{Build, build, acted, EndsAt}
-use Rattle.tcq_reader.proofs.Acts.{at}
+use Rattle.tcq_reader.proofs.Following.{at}
 use Rattle.tcq_reader.proofs.ReadingLemmas.{Reading, reading_begun, reading_more, reading_sound, reading_ends_at, reading_rest, reading_done, never_refused, stop_is_fault}
 use Rattle.tcq_reader.proofs.reading.build_queries.Goals as goal
 use Rattle.tcq_reader.proofs.reading.build_queries.Goals.{then-branch+in_default-act, else-branch}
