@@ -33,7 +33,8 @@ pub record IsStoreOf (kept : List Kept) (store : List (List ℕ)) : Type 0 where
 
 -- the total length of the distinct chains that are kept of one query
 abbrev pub IsClausesOf : Kept → ℕ → Type 0
-IsClausesOf k size = (store : List (List ℕ)) × IsStoreOf (k ∷ []) store × All IsChain store × (size ≡ sum_by length store)
+IsClausesOf k size =
+    (store : List (List ℕ)) × IsStoreOf (k ∷ []) store × All IsChain store × (size ≡ sum_by length store)
 
 -- what is kept of each query counts the snapshots that the state counts
 abbrev pub AreCounted : State → Type 0

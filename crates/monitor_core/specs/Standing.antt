@@ -53,7 +53,8 @@ pub record Accepts (old new : Monitored) (snapshot : List Fact) (relations : Lis
 
 -- whatever history the monitor stood for, it took the snapshot, and answered by these relations
 abbrev pub Takes : Monitored → Monitored → List Fact → List Relation → Type 0
-Takes old new snapshot relations = (history : History) → Stands old history → Accepts old new snapshot relations history
+Takes old new snapshot relations =
+    (history : History) → Stands old history → Accepts old new snapshot relations history
 
 -- for each query a relation over its answer variables and the declared individuals
 abbrev pub AreRowsIn : Setting → List Relation → Type 0
@@ -69,16 +70,21 @@ IsLeastIn setting snapshot number = IsLeastClash setting.ontology snapshot numbe
 
 -- the total length of the lists that are kept of all queries after the history, equal ones once
 abbrev pub IsHeldSize : Setting → History → ℕ → Type 0
-IsHeldSize setting history size = IsKeptSize setting.ontology.inclusions (length setting.ontology.individuals) history setting.queries size
+IsHeldSize setting history size =
+    let count = length setting.ontology.individuals in
+    IsKeptSize setting.ontology.inclusions count history setting.queries size
 
 -- whatever history the monitor stands for, so much is held after it
 abbrev pub HoldsSize : Monitored → ℕ → Type 0
-HoldsSize monitor size = (history : History) → Stands monitor history → IsHeldSize (setting_of monitor) history size
+HoldsSize monitor size =
+    (history : History) → Stands monitor history → IsHeldSize (setting_of monitor) history size
 
 -- and so much is kept of the query at the place
 abbrev pub KeepsSize : Monitored → ℕ → ℕ → Type 0
-KeepsSize monitor place size = (history : History) (query : Tcq) → Stands monitor history → slice_get (setting_of monitor).queries place ≡ Some query →
-    IsKeptSize (setting_of monitor).ontology.inclusions (length (setting_of monitor).ontology.individuals) history (query ∷ []) size
+KeepsSize monitor place size =
+    (history : History) (query : Tcq) → Stands monitor history →
+    slice_get (setting_of monitor).queries place ≡ Some query →
+    IsHeldSize (record { ontology = (setting_of monitor).ontology; queries = query ∷ [] }) history size
 
 -- the units of the queries over the declared individuals
 abbrev pub units_in : Setting → ℕ
@@ -86,4 +92,6 @@ units_in setting = units (length setting.ontology.individuals) setting.queries
 
 -- no more than the units of the query at the place
 abbrev pub IsFewAt : Setting → ℕ → ℕ → Type 0
-IsFewAt setting place size = (query : Tcq) → slice_get setting.queries place ≡ Some query → size ≤ units_of (length setting.ontology.individuals) query
+IsFewAt setting place size =
+    (query : Tcq) → slice_get setting.queries place ≡ Some query →
+    size ≤ units_of (length setting.ontology.individuals) query
