@@ -13,5 +13,5 @@ mod writing;
 pub use ending::Ending;
 pub use line::GivenLine;
 pub use reporter::Reporter;
-pub use running::{STREAM_LIMIT, report_stream};
+pub use running::report_stream;
 pub use writing::{write_all, write_text};

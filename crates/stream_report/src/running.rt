@@ -12,7 +12,7 @@ use edge_io::{Line, LineReader, Memory, ReadEnd, Sink, Source};
 use std::alloc::Global;
 
 /// How many bytes a run takes at most, but for one.
-pub const STREAM_LIMIT: u64 = 1 << 40;
+const STREAM_LIMIT: u64 = 1 << 40;
 
 /// Reads the input to its end, and writes what the reporter tells of it.
 pub fn report_stream<Refusal, R: Reporter, S: Source, K: Sink>(
