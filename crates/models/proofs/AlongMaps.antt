@@ -212,7 +212,7 @@ certain_answers_map_along inclusions snapshot other_snapshot other h q row facts
     )
 
 -- a clash that the interpretation of a run meets is one that the run meets
-run_avoids : (h : IndId → Element) (c : Clash) (run : List Fact) → ¬ Meets c run
+pub run_avoids : (h : IndId → Element) (c : Clash) (run : List Fact) → ¬ Meets c run
     → Avoids (listed h run) c
 run_avoids h (clash.Concepts b c) run never = λ x in_b in_c.
     let one : (f : Fact) × In b x f × Has (listed h run) f = had-In (listed h run) b x in_b in

@@ -71,7 +71,7 @@ module _ (bound : ℕ) where
       ap (λ (u : Element). fact.Role p u (ind_element (frozen_term bound y))) (own_term x)
       ∙ ap (fact.Role p (term_at own x)) (own_term y)
 
-  own_row : (inclusions : List Inclusion) (q : Cq)
+  pub own_row : (inclusions : List Inclusion) (q : Cq)
       → Certain inclusions q (frozen bound q) (frozen_row bound q)
   own_row inclusions q = record {
     run = frozen bound q;
@@ -88,7 +88,7 @@ module _ (bound : ℕ) where
   frozen_atom_plain (atom.Concept c x) = tt
   frozen_atom_plain (atom.Role p x y) = (tt, tt)
 
-  frozen_plain : (q : Cq) (f : Fact) → Contains (frozen bound q) f → HasNoNull f
+  pub frozen_plain : (q : Cq) (f : Fact) → Contains (frozen bound q) f → HasNoNull f
   frozen_plain q f there = let found : (a : Atom) × Contains q.body a × (frozen_atom bound a ≡ f) =
       map_only (frozen_atom bound) q.body f there in
       subst HasNoNull found.2 (frozen_atom_plain found.0)

@@ -1,0 +1,48 @@
+-- When a conjunctive query is contained in another under an ontology, after Johnson and Klug 1984.
+use Rattle.std.specs.Prelude.{List, length}
+use Rattle.dl_syntax.specs.declared.names.IndId.{IndId}
+use Rattle.dl_syntax.specs.declared.facts.Fact.{Fact}
+use Rattle.dl_syntax.specs.declared.queries.Cq.{Cq}
+use Rattle.dl_syntax.specs.Queries.{IsQuery}
+use Rattle.dl_syntax.specs.Ontology.{Declared}
+use Rattle.dl_syntax.specs.Match.{Certain}
+use Rattle.perfect_ref.specs.Laws.{IsOverOntology, IsQueryOver}
+use Rattle.consistency.specs.Least.{IsConsistentUnder}
+use Rattle.models.specs.Containment.{IsBelow}
+use Rattle.contain_test.specs.declared.deciding.Containment.{Containment}
+use Rattle.contain_test.specs.declared.deciding.Containment.TheVariants.{Yes, No}
+use Rattle.contain_test.specs.Deciding.{IsFrozen}
+
+-- the query is within the limits, and the ontology declares each concept, role and individual that
+-- it names
+pub record IsQueryOf (o : Declared) (q : Cq) : Type 0 where
+  pub query : IsQuery q
+  pub predicates : IsQueryOver o q
+  pub individuals : IsBelow (length o.individuals) q
+
+-- in each consistent snapshot, over the declared individuals and any further ones, each answer of
+-- the first query is one
+-- of the second
+abbrev pub IsContainedUnder : Declared → Cq → Cq → Type 0
+IsContainedUnder o first second =
+    (snapshot : List Fact) (row : List IndId)
+    → IsOverOntology o snapshot
+    → IsConsistentUnder o snapshot
+    → Certain o.inclusions first snapshot row
+    → Certain o.inclusions second snapshot row
+
+-- the body of the normalised first query, variable n being the individual n places after the
+-- declared ones, and its head:
+-- the facts are consistent, and the row is an answer of the first query and not of the second
+pub record Separates (o : Declared) (first second : Cq) (facts : List Fact)
+    (row : List IndId) : Type 0 where
+  pub frozen : IsFrozen o first facts row
+  pub over : IsOverOntology o facts
+  pub consistent : IsConsistentUnder o facts
+  pub answer : Certain o.inclusions first facts row
+  pub no_answer : ¬ Certain o.inclusions second facts row
+
+-- what is said against containment shows it
+abbrev pub IsShown : Declared → Cq → Cq → Containment → Type 0
+IsShown o first second Yes = Unit {0}
+IsShown o first second (No facts row) = Separates o first second facts row
