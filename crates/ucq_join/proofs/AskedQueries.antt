@@ -27,22 +27,6 @@ apart_asked c r =
       wide = refl;
     }
 
-pub product_asked : (c : ConceptId) → IsAsked 2 (record { head = Var 0 ∷ Var 1 ∷ []; body = atom.Concept c (Var 0) ∷ atom.Concept c (Var 1) ∷ [] })
-product_asked c =
-    let body : List Atom = atom.Concept c (Var 0) ∷ atom.Concept c (Var 1) ∷ [] in
-    record {
-      query = record {
-        some_atom = omega arith;
-        few_atoms = omega arith;
-        head_bound = All-cons (IsBound body) (Var 0) (Var 1 ∷ []) (0, atom.Concept c (Var 0), omega arith, refl, refl)
-            (All-cons (IsBound body) (Var 1) [] (1, atom.Concept c (Var 1), omega arith, refl, refl) (All-nil (IsBound body)));
-      };
-      wide = refl;
-    }
-
-pub boolean_asked : (a : Atom) → IsAsked 0 (record { head = []; body = a ∷ [] })
-boolean_asked a = record { query = record { some_atom = omega arith; few_atoms = omega arith; head_bound = All-nil (IsBound (a ∷ [])) }; wide = refl }
-
 pub one_asked : {arity : ℕ} (q r : Cq) → q ≡ r → IsAsked arity r → All (IsAsked arity) (q ∷ [])
 one_asked {arity} q r same asked = All-cons (IsAsked arity) q [] (subst (IsAsked arity) (sym same) asked) (All-nil (IsAsked arity))
 

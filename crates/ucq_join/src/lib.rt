@@ -17,6 +17,4 @@ mod split;
 pub use join::answers;
 
 #[cfg(test)]
-mod plain;
-#[cfg(test)]
 mod tests;
