@@ -1,6 +1,5 @@
 pub mod Zipped
 pub mod ClashQueries
-pub mod Counting
 pub mod Meeting
 pub mod Matches
 pub mod MarkBits

@@ -15,11 +15,13 @@ use Rattle.dl_syntax.specs.Ontology.{Declared}
 use Rattle.dl_syntax.specs.Encode.{encode, IsMet}
 use Rattle.dl_syntax.specs.Match.{Certain}
 use Rattle.query_unify.specs.Reach.{go, replace}
-use Rattle.query_unify.specs.Saturation.{IsCore, begin, made}
+use Rattle.query_unify.specs.Core.{IsCore, begin, made}
 use Rattle.query_unify.proofs.Bound.{IsQuery-normalise}
 use Rattle.query_unify.proofs.Shorter.{normalise-short}
 use Rattle.perfect_ref.specs.Plain.{Encoded, encoded, PlainReachable, PlainCore}
-use Rattle.perfect_ref.specs.Laws.{IsOverOntology, IsSaturated, SomeGives}
+use Rattle.perfect_ref.specs.Laws.{SomeGives}
+use Rattle.dl_syntax.specs.Encode.{IsOverOntology}
+use Rattle.dl_syntax.specs.Saturation.{IsSaturated}
 use Rattle.perfect_ref.proofs.Answering.{Steps-query, answers_of_list, answers_of_core}
 use Rattle.ucq_join.specs.Answers.{IsUnionAnswer}
 use Rattle.ucq_join.proofs.Alike.{answers_alike}

@@ -1,5 +1,5 @@
 -- The query that asks whether a clash is met: both sides at one existential variable, or at one pair of them.
-use Rattle.std.specs.Prelude.{◌≡◌, ℕ, ◌↔◌, List, [], ◌∷◌, length, if◌then◌else◌}
+use Rattle.std.specs.Prelude.{◌≡◌, ℕ, ◌↔◌, List, [], ◌∷◌, length, map, if◌then◌else◌}
 use Rattle.dl_syntax.specs.declared.facts.Fact.{Fact}
 use Rattle.dl_syntax.specs.declared.ontology.Role.{Role}
 use Rattle.dl_syntax.specs.declared.ontology.Basic.{Basic}
@@ -31,6 +31,10 @@ sides (clash.Roles r s) = pair_atom r 0 1 ∷ pair_atom s 0 1 ∷ []
 -- the query of the clash, which has no answer variable
 abbrev pub query_of : Clash → Cq
 query_of m = record { head = []; body = sides m }
+
+-- the query of each clash
+abbrev pub queries_of : List Clash → List Cq
+queries_of clashes = map query_of clashes
 
 -- the query asks whether there is a match alone
 abbrev pub HasEmptyHead : Cq → Type 0

@@ -1,6 +1,5 @@
 pub mod Asking
 pub mod Least
-pub mod Reached
 pub mod Prepared
 pub mod Matching
 pub mod Marking

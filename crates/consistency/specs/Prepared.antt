@@ -1,6 +1,6 @@
 -- What is kept of an ontology's clashes.
 use Rattle.std.specs.Prelude.{◌≡◌, ℕ, ◌≤◌, Some, List, map, length, slice_get}
-use Rattle.std.specs.List.{All, AllZip, sum_by}
+use Rattle.std.specs.List.{All, AllZip}
 use Rattle.dl_syntax.specs.declared.ontology.Inclusion.{Inclusion}
 use Rattle.dl_syntax.specs.declared.ontology.Clash.{Clash}
 use Rattle.dl_syntax.specs.declared.queries.Cq.{Cq}
@@ -8,10 +8,11 @@ use Rattle.dl_syntax.specs.Declaring.{IsDeclaredClash}
 use Rattle.dl_syntax.specs.Encode.{encode}
 use Rattle.dl_syntax.specs.Ontology.{Declared, most_clashes}
 use Rattle.perfect_ref.specs.Plain.{Encoded, Reachable, PlainReachable, PlainCore, IsPlain, Lists, HoldsOf}
+use Rattle.perfect_ref.specs.Counting.{ReachAll}
 use Rattle.consistency.specs.declared.rewriting.Rewriting.{Rewriting}
 use Rattle.dl_syntax.specs.declared.facts.Fact.{Fact}
 use Rattle.ucq_join.specs.Alike.{AgreeOnUnion}
-use Rattle.consistency.specs.Asking.{query_of}
+use Rattle.consistency.specs.Asking.{query_of, queries_of}
 
 -- the rewriting of the query, its core, and how many queries are reachable
 pub record IsRewritingOf (e : Encoded) (q : Cq) (r : Rewriting) : Type 0 where
@@ -46,15 +47,11 @@ cores_of p = map (λ r. r.core.items) p.rewritings
 abbrev pub AgreeOnCores : Prepared → List Fact → List Fact → Type 0
 AgreeOnCores p facts other = (place : ℕ) (core : List Cq) → slice_get (cores_of p) place ≡ Some core → AgreeOnUnion core facts other
 
--- all rewritings together reach so many queries
-abbrev pub count_in_all : List Rewriting → ℕ
-count_in_all rewritings = sum_by (λ r. r.count) rewritings
-
 pub record IsPrepared (p : Prepared) : Type 0 where
   pub declared : All (IsDeclaredClash p.concepts p.roles) p.clashes
   pub few : length p.clashes ≤ most_clashes
   pub rewritten : AllZip (IsRewriting (encoding_of p)) p.clashes p.rewritings
-  pub counted : p.reached ≡ count_in_all p.rewritings
+  pub counted : ReachAll (encoding_of p) (queries_of p.clashes) p.reached
 
 -- it was prepared for the inclusions and clashes of the ontology
 pub record IsPreparedFor (p : Prepared) (ontology : Declared) : Type 0 where

@@ -3,17 +3,18 @@ ghost use Rattle.std.specs.Prelude.{◌≡◌, ◌≤◌, IfOk};
 ghost use Rattle.std.specs.List.{All, AllZip};
 ghost use Rattle.dl_syntax.specs.Queries.{IsQuery};
 ghost use Rattle.perfect_ref.specs.Plain.{Reachable, HoldsOfMore, IsPlain};
-ghost use Rattle.consistency.specs.Asking.{query_of};
-ghost use Rattle.consistency.specs.Reached.{ReachMoreInAll};
+ghost use Rattle.consistency.specs.Asking.{query_of, queries_of};
+ghost use Rattle.perfect_ref.specs.Counting.{ReachAll, ReachMore};
 ghost use Rattle.consistency.specs.Matching.{part_of};
-ghost use Rattle.consistency.specs.Prepared.{IsRewritingOf, IsRewriting, IsPlainClash, count_in_all};
+ghost use Rattle.consistency.specs.Prepared.{IsRewritingOf, IsRewriting, IsPlainClash};
 
 use crate::query::query;
 use dl_syntax::{Clash, Cq};
 use perfect_ref::{RewriteFault, Rewriter};
 use std::alloc::Global;
 
-/// The rewriting of a clash's query, what answers it over a saturated snapshot, and how many queries are reachable.
+/// The rewriting of a clash's query, what answers it over a saturated snapshot, and how many
+/// queries are reachable.
 #[derive(Drop)]
 pub(crate) struct Rewriting {
     pub whole: Vec<Cq>,
@@ -53,7 +54,8 @@ fn rewriting_of(rewriter: &Rewriter, query: &Cq, room: u32) -> Result<Rewriting,
     requires plain { IsPlain rewriter.now.roles query.now }
     ensures rewriting { IfOk result (IsRewritingOf rewriter.now query.now) }
     ensures few { IfOk result (λ rewriting. rewriting.count ≤ room) }
-    ensures many { result ≡ Err RewriteFault.TooManyRewritings → HoldsOfMore (Reachable rewriter.now query.now) room }
+    ensures many { result ≡ Err RewriteFault.TooManyRewritings →
+        HoldsOfMore (Reachable rewriter.now query.now) room }
 {
     let both = rewriter.whole_and_core(query, room)?;
     Ok(Rewriting {
@@ -73,7 +75,8 @@ fn rewrite_clash(
     requires { IsPlainClash rewriter.now.roles clash.now }
     ensures rewriting { IfOk result (IsRewriting rewriter.now clash.now) }
     ensures few { IfOk result (λ rewriting. rewriting.count ≤ room) }
-    ensures many { result ≡ Err RewriteFault.TooManyRewritings → HoldsOfMore (Reachable rewriter.now (query_of clash.now)) room }
+    ensures many { result ≡ Err RewriteFault.TooManyRewritings →
+        HoldsOfMore (Reachable rewriter.now (query_of clash.now)) room }
 {
     match query(alloc, clash) {
         Ok(query) => rewriting_of(rewriter, &query, room),
@@ -90,9 +93,11 @@ pub(crate) fn rewrite_clashes(
 ) -> Result<Rewritings, RewriteFault>
     requires { All (IsPlainClash rewriter.now.roles) clashes.now }
     ensures each { IfOk result (λ r. AllZip (IsRewriting rewriter.now) clashes.now r.each.items) }
-    ensures counted { IfOk result (λ r. r.reached ≡ count_in_all r.each.items) }
+    ensures counted { IfOk result (λ r.
+        ReachAll rewriter.now (queries_of clashes.now) r.reached) }
     ensures few { IfOk result (λ r. r.reached ≤ room) }
-    ensures many { result ≡ Err RewriteFault.TooManyRewritings → ReachMoreInAll rewriter.now clashes.now room }
+    ensures many { result ≡ Err RewriteFault.TooManyRewritings →
+        ReachMore rewriter.now (queries_of clashes.now) room }
 {
     let mut each = Vec::new(alloc);
     let mut reached = 0;

@@ -3,7 +3,7 @@ use Rattle.std.proofs.Common.{◌≡◌, List, [], ◌∷◌, refl, sym, ◌∙�
 use Rattle.dl_syntax.specs.declared.facts.Fact.{Fact}
 use Rattle.dl_syntax.specs.Rows.{Relation}
 use Rattle.tcq_syntax.specs.Histories.{History, with_snapshot}
-use Rattle.perfect_ref.specs.Laws.{IsOverOntology}
+use Rattle.dl_syntax.specs.Encode.{IsOverOntology}
 use Rattle.monitor_core.specs.declared.plan.Plan.{Plan}
 use Rattle.monitor_core.specs.declared.state.State.{State}
 use Rattle.monitor_core.specs.Keeping.{Monitored, IsMonitored}

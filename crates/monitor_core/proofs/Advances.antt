@@ -13,7 +13,7 @@ use Rattle.dl_syntax.specs.Rows.{Relation}
 use Rattle.tcq_syntax.specs.Tcq.{Tcq}
 use Rattle.tcq_syntax.specs.Histories.{History, individuals_of, with_snapshot}
 use Rattle.tcq_syntax.specs.Answers.{AreAnswers}
-use Rattle.perfect_ref.specs.Laws.{IsOverOntology}
+use Rattle.dl_syntax.specs.Encode.{IsOverOntology}
 use Rattle.saturate.specs.declared.sight.Sight.{Sight}
 use Rattle.progression.specs.declared.kept.Kept.{Kept}
 use Rattle.progression.specs.Kept.{AreSlotAnswers}

@@ -24,7 +24,7 @@ use Rattle.tcq_syntax.specs.Tcq.{Tcq, IsTcq, IsLeaf, IsAnswerHead}
 use Rattle.tcq_syntax.specs.Sizes.{units, units_of, most_units, futures}
 use Rattle.tcq_syntax.specs.Within.{HasDeclaredLeaves}
 use Rattle.perfect_ref.specs.Plain.{Encoded, encoded, IsPlain, IsPlainAtom}
-use Rattle.perfect_ref.specs.Laws.{IsQueryOver}
+use Rattle.dl_syntax.specs.Encode.{IsQueryOver}
 use Rattle.progression.specs.Tables.{leaves_of}
 use Rattle.monitor_core.specs.Planning.{IsAskable, HasPlainLeaves}
 use Rattle.monitor_core.specs.Opening.{all_leaves}

@@ -17,11 +17,12 @@ use Rattle.dl_syntax.proofs.AllByCons.{All-from_contains}
 use Rattle.progression.specs.Tables.{IsOverLeaf}
 use Rattle.dl_syntax.specs.Rows.{Relation}
 use Rattle.query_unify.specs.Reach.{go, replace}
-use Rattle.query_unify.specs.Saturation.{IsCore, begin, made}
+use Rattle.query_unify.specs.Core.{IsCore, begin, made}
 use Rattle.query_unify.proofs.Bound.{IsQuery-normalise}
 use Rattle.query_unify.proofs.Shorter.{normalise-short}
 use Rattle.perfect_ref.specs.Plain.{Encoded, encoded, PlainCore}
-use Rattle.perfect_ref.specs.Laws.{IsOverOntology, IsQueryOver, SomeGives}
+use Rattle.perfect_ref.specs.Laws.{SomeGives}
+use Rattle.dl_syntax.specs.Encode.{IsOverOntology, IsQueryOver}
 use Rattle.perfect_ref.proofs.Answering.{Steps-query, answers_of_core}
 use Rattle.ucq_join.specs.Answers.{IsUnionAnswer}
 use Rattle.ucq_join.proofs.Alike.{answers_alike}

@@ -1,7 +1,7 @@
 pub mod Seeing
 pub mod LeafAnswers
 pub mod Placing
-pub mod Counting
+pub mod MorePlaces
 pub mod Advances
 pub mod Storing
 pub mod Saturating

@@ -9,7 +9,8 @@ use Rattle.dl_syntax.specs.declared.facts.Fact.TheVariants as fact
 use Rattle.dl_syntax.specs.Declaring.{IsDeclaredFact, IsDeclaredInclusion}
 use Rattle.dl_syntax.specs.Facts.{HasNoNull}
 use Rattle.dl_syntax.specs.Ontology.{Declared}
-use Rattle.perfect_ref.specs.Laws.{IsOverOntology, IsSaturated}
+use Rattle.dl_syntax.specs.Encode.{IsOverOntology}
+use Rattle.dl_syntax.specs.Saturation.{IsSaturated}
 use Rattle.monitor_core.specs.Answering.{IsOver, AreOver}
 
 -- what is said of declared names alone

@@ -10,14 +10,14 @@ use Rattle.dl_syntax.specs.declared.queries.Atom.{Atom}
 use Rattle.dl_syntax.specs.declared.queries.Atom.TheVariants as atom
 use Rattle.dl_syntax.specs.declared.queries.Cq.{Cq}
 use Rattle.dl_syntax.specs.Ontology.{Declared}
-use Rattle.perfect_ref.specs.Laws.{IsOverOntology}
+use Rattle.dl_syntax.specs.Encode.{IsOverOntology}
 use Rattle.ucq_join.specs.Alike.{HasPredicateOf, AgreeOnUnion}
 use Rattle.consistency.specs.Prepared.{Prepared, cores_of, AgreeOnCores}
 use Rattle.saturate.specs.declared.sight.Sight.{Sight}
 use Rattle.saturate.specs.Sight.{SeesConcept, SeesRole, Sees, SeesAtom, SeesQuery, SeesUnion, Seen, IsSeenSaturation, KeepsSight}
 use Rattle.saturate.proofs.Sighted.{union_kept}
 use Rattle.monitor_core.specs.declared.plan.Leaf.{Leaf}
-use Rattle.saturate.proofs.Kept.{saturation_is_declared}
+use Rattle.dl_syntax.proofs.SaturationLaws.{saturation_is_declared}
 use Rattle.monitor_core.specs.Planning.{SeesLeaves, SeesClashes}
 use Rattle.monitor_core.specs.Advancing.{AreSeen}
 

@@ -6,7 +6,8 @@ use Rattle.dl_syntax.specs.Ontology.{Declared}
 use Rattle.dl_syntax.specs.Rows.{Relation}
 use Rattle.tcq_syntax.specs.Tcq.{Tcq}
 use Rattle.tcq_syntax.specs.Histories.{History, with_snapshot}
-use Rattle.perfect_ref.specs.Laws.{IsOverOntology, IsSaturated}
+use Rattle.dl_syntax.specs.Encode.{IsOverOntology}
+use Rattle.dl_syntax.specs.Saturation.{IsSaturated}
 use Rattle.saturate.specs.declared.sight.Sight.{Sight}
 use Rattle.saturate.specs.Sight.{Seen}
 use Rattle.progression.specs.declared.kept.Kept.{Kept}

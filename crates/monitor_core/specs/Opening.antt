@@ -1,11 +1,12 @@
 -- How many queries the leaves and the clashes of a monitor reach by rewriting.
-use Rattle.std.specs.Prelude.{◌≡◌, ◌≢◌, ℕ, ◌<◌, Some, List, [], ◌∷◌, ◌++◌, map, length, slice_get}
-use Rattle.std.specs.List.{All, AllPairs, AllZip, sum_by}
+use Rattle.std.specs.Prelude.{◌≡◌, ℕ, Some, List, [], ◌∷◌, ◌++◌, slice_get}
+use Rattle.std.specs.List.{AllZip}
 use Rattle.dl_syntax.specs.Ontology.{Declared}
 use Rattle.dl_syntax.specs.declared.queries.Cq.{Cq}
 use Rattle.tcq_syntax.specs.Tcq.{Tcq}
-use Rattle.perfect_ref.specs.Plain.{Encoded, encoded, Reachable, Lists}
-use Rattle.consistency.specs.Asking.{query_of}
+use Rattle.perfect_ref.specs.Plain.{Encoded, encoded}
+use Rattle.perfect_ref.specs.Counting.{ReachAll, ReachMore}
+use Rattle.consistency.specs.Asking.{queries_of}
 use Rattle.progression.specs.Tables.{leaves_of}
 use Rattle.monitor_core.specs.declared.plan.Leaf.{Leaf}
 use Rattle.monitor_core.specs.Planning.{IsAskedAt}
@@ -15,26 +16,9 @@ abbrev pub all_leaves : List Tcq → List Cq
 all_leaves [] = []
 all_leaves (query ∷ queries) = leaves_of query.nodes ++ all_leaves queries
 
--- the leaves, and the query of each clash
+-- the leaves, and the clashes' queries
 abbrev pub starts : Declared → List Tcq → List Cq
-starts ontology queries = all_leaves queries ++ map query_of ontology.clashes
-
--- some queries that the first one reaches, each once
-pub record AreReached (e : Encoded) (q : Cq) (list : List Cq) : Type 0 where
-  pub distinct : AllPairs (λ one other. one ≢ other) list
-  pub sound : All (Reachable e q) list
-
--- these queries reach more than so many in all, each counted by itself
-pub record ReachMore (e : Encoded) (queries : List Cq) (room : ℕ) : Type 0 where
-  pub lists : List (List Cq)
-  pub each : AllZip (AreReached e) queries lists
-  pub more : room < sum_by length lists
-
--- they reach exactly so many
-pub record ReachAll (e : Encoded) (queries : List Cq) (count : ℕ) : Type 0 where
-  pub lists : List (List Cq)
-  pub each : AllZip (λ q list. Lists (Reachable e q) list) queries lists
-  pub total : sum_by length lists ≡ count
+starts ontology queries = all_leaves queries ++ queries_of ontology.clashes
 
 -- the leaf at the place asks the query
 abbrev pub AsksSame : List Leaf → Cq → ℕ → Type 0

@@ -1,5 +1,6 @@
 // The next snapshot.
-ghost use Rattle.std.specs.Prelude.{◌≡◌, ◌<◌, ℕ, List, Some, length, slice_get, Err, IfOk, OnOk, OnErr};
+ghost use Rattle.std.specs.Prelude.{◌≡◌, ◌<◌, ℕ, List, Some, length, slice_get};
+ghost use Rattle.std.specs.Prelude.{Err, IfOk, OnOk, OnErr};
 ghost use Rattle.std.specs.List.{AllZip};
 ghost use Rattle.dl_syntax.specs.declared.facts.Fact.{Fact};
 ghost use Rattle.tcq_syntax.specs.Tcq.{Tcq};
@@ -9,7 +10,8 @@ ghost use Rattle.monitor_core.specs.Planning.{IsPlan};
 ghost use Rattle.monitor_core.specs.Leaves.{AreUnionAnswers, AreLeafRelations};
 ghost use Rattle.monitor_core.specs.Keeping.{AllFit, AreCounted, IsMonitored};
 ghost use Rattle.monitor_core.specs.Advancing.{one_more, AreSeen, Advances, AllAdvance};
-ghost use Rattle.monitor_core.specs.Standing.{IsNext, Takes, AreRowsIn, IsConsistentIn, IsLeastIn, setting_of};
+ghost use Rattle.monitor_core.specs.Standing.{IsNext, Takes, AreRowsIn, IsConsistentIn};
+ghost use Rattle.monitor_core.specs.Standing.{IsLeastIn, setting_of};
 
 use crate::accept_fault::AcceptFault;
 use crate::leaves::{leaf_answers, relations_at};
@@ -32,6 +34,13 @@ struct Advanced {
     answers: Vec<Tuples>,
 }
 
+/// The answers of the leaves at a snapshot, and where memory is taken for what comes of them.
+#[derive(Clone, Copy)]
+struct Moment<'a> {
+    alloc: Global,
+    relations: &'a [Tuples],
+}
+
 /// What was made of the query at the place before, which is taken away.
 fn take_made(alloc: Global, made: &mut Vec<Made>, place: usize) -> Made {
     if place < made.len() {
@@ -51,35 +60,41 @@ fn put_made(made: &mut Vec<Made>, place: usize, known: Made) {
 }
 
 impl Plan {
-    /// The facts over individuals that follow from the snapshot's and that leaves or clashes can see.
+    /// The facts over individuals that follow from the snapshot's and that leaves or clashes can
+    /// see.
     fn closed(&self, alloc: Global, snapshot: &Snapshot) -> Result<Index, Memory>
         requires plan { IsPlan self.now }
         requires over { AreOver self.now.ontology snapshot.now }
-        ensures { IfOk result (λ index. AreSeen self.now.ontology self.now.sight snapshot.now index) }
+        ensures { IfOk result (λ index.
+            AreSeen self.now.ontology self.now.sight snapshot.now index) }
     {
         let facts = self.saturator.saturate_seen(alloc, &self.sight, snapshot)?;
         build::index(alloc, &facts)
     }
 
-    /// What is kept of the query at the place after one more snapshot, at which these are the answers of the leaves, and its answers then.
+    /// What is kept of the query at the place after one more snapshot, and its answers then.
     fn advance_one(
         &self,
-        alloc: Global,
+        moment: &Moment<'_>,
         place: usize,
         kept: &Kept,
-        relations: &[Tuples],
         made: &mut Vec<Made>,
         store: &mut Store,
     ) -> Result<(Kept, Tuples), Memory>
         requires plan { IsPlan self.now }
-        requires relations { AreLeafRelations self.now.leaves.items relations.now }
+        requires relations { AreLeafRelations self.now.leaves.items moment.now.relations.now }
         requires within { place < length self.now.queries.items }
-        requires fits { (query : Tcq) → slice_get self.now.queries.items place ≡ Some query → Fits query (length self.now.ontology.individuals) kept.now }
-        ensures { IfOk result (λ r. (facts : List Fact) (query : Tcq) → AllZip (AreUnionAnswers facts) self.now.leaves.items relations.now → slice_get self.now.queries.items place ≡ Some query → Advances self.now.ontology self.now.sight query facts kept.now r.0 r.1) }
+        requires fits { (query : Tcq) → slice_get self.now.queries.items place ≡ Some query →
+            Fits query (length self.now.ontology.individuals) kept.now }
+        ensures { IfOk result (λ r. (facts : List Fact) (query : Tcq) →
+            AllZip (AreUnionAnswers facts) self.now.leaves.items moment.now.relations.now →
+            slice_get self.now.queries.items place ≡ Some query →
+            Advances self.now.ontology self.now.sight query facts kept.now r.0 r.1) }
     {
+        let alloc = moment.alloc;
         let query = &self.queries[place];
         let places = self.places.as_slice();
-        let leaves = relations_at(alloc, relations, places[place].as_slice())?;
+        let leaves = relations_at(alloc, moment.relations, places[place].as_slice())?;
         let slots = self.slots;
         let mut known = take_made(alloc, made, place);
         let asked = leaves.as_slice();
@@ -88,7 +103,8 @@ impl Plan {
         next
     }
 
-    /// What is kept of each query after one more snapshot, from whose facts these follow, and the answers then.
+    /// What is kept of each query after one more snapshot, from whose facts these follow, and the
+    /// answers then.
     fn advanced(
         &self,
         alloc: Global,
@@ -98,15 +114,21 @@ impl Plan {
     ) -> Result<Advanced, Memory>
         requires plan { IsPlan self.now }
         requires fits { AllFit self.now.ontology self.now.queries.items kept.now }
-        ensures { IfOk result (λ a. AllAdvance self.now.ontology self.now.sight self.now.queries.items facts.now kept.now a.kept.items a.answers.items) }
+        ensures { IfOk result (λ a.
+            AllAdvance self.now.ontology self.now.sight self.now.queries.items facts.now kept.now
+            a.kept.items a.answers.items) }
     {
         let relations = leaf_answers(alloc, facts, self.leaves.as_slice())?;
         let mut store = Store::new(alloc);
         let mut new = Vec::with_capacity(alloc, kept.len())?;
         let mut answers = Vec::with_capacity(alloc, kept.len())?;
+        let known = relations.as_slice();
+        let moment = Moment {
+            alloc,
+            relations: known,
+        };
         for place in 0..kept.len() {
-            let known = relations.as_slice();
-            let (k, rows) = self.advance_one(alloc, place, &kept[place], known, made, &mut store)?;
+            let (k, rows) = self.advance_one(&moment, place, &kept[place], made, &mut store)?;
             new.push(k)?;
             answers.push(rows)?;
         }
@@ -122,7 +144,8 @@ impl Plan {
         made: &mut Vec<Made>,
     ) -> Result<(State, Vec<Tuples>), Memory>
         requires { IsMonitored (record { plan = self.now; state = state.now }) }
-        ensures { IfOk result (λ r. IsNext (record { plan = self.now; state = state.now }) facts.now r.0 r.1.items) }
+        ensures { IfOk result (λ r.
+            IsNext (record { plan = self.now; state = state.now }) facts.now r.0 r.1.items) }
     {
         let advanced = self.advanced(alloc, state.kept.as_slice(), facts, made)?;
         let Advanced { kept, answers } = advanced;

@@ -1,11 +1,14 @@
 //! A monitor: the answers of temporal queries after each accepted snapshot.
 //!
-//! It keeps a plan, made once of the ontology and the queries, and a state: for each query a table for each kept node.
-//! A new state is built whole before it takes the place of the old one, so a refused snapshot changes nothing.
+//! It keeps a plan, made once of the ontology and the queries, and a state: for each query a table
+//! for each kept node.
+//! A new state is built whole before it takes the place of the old one, so a refused snapshot
+//! changes nothing.
 #![tactic(auto)]
 
 mod accept;
 mod accept_fault;
+mod gathering;
 mod leaves;
 mod monitor;
 mod opening;
@@ -14,7 +17,7 @@ mod state;
 
 pub use accept_fault::AcceptFault;
 pub use monitor::Monitor;
-pub use opening::open;
+pub use opening::{check_reach, open};
 pub use perfect_ref::RewriteFault as OpenFault;
 pub use plan::{Leaf, Plan};
 pub use state::State;

@@ -48,7 +48,8 @@ impl Monitor {
     /// How many snapshots were accepted, or the greatest number where there were more.
     pub fn count(&self) -> u64
         ensures state { result ≡ self.now.state.count }
-        ensures history { (h : History) → Stands self.now h → result ≡ count_of h }
+        ensures history { (history : History) →
+            Stands self.now history → result ≡ count_of history }
     {
         self.state.count
     }

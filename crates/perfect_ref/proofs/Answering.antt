@@ -26,17 +26,21 @@ use Rattle.dl_syntax.specs.Encode.{encode, hidden, hidden_inverse, IsUnqualified
 use Rattle.dl_syntax.proofs.AllByCons.{Contains-none, Contains-single, Contains-cons_cases, All-from_contains}
 use Rattle.dl_syntax.proofs.EncodingShape.{encoding_is_plain}
 use Rattle.dl_syntax.proofs.EncodingLaws.{encoding_keeps_answers, encoding_keeps_facts}
+use Rattle.dl_syntax.proofs.SaturationLaws.{saturation_is_declared}
 use Rattle.dl_syntax.proofs.Images.{role_fact_declared, basic_fact_declared}
 use Rattle.query_unify.specs.Normal.{normalise}
 use Rattle.query_unify.specs.Reach.{Steps, stay, go, Reach}
 use Rattle.query_unify.specs.Laws.{Gives}
-use Rattle.query_unify.specs.Saturation.{IsSaturation, IsCore}
+use Rattle.dl_syntax.specs.Saturation.{IsSaturation}
+use Rattle.query_unify.specs.Core.{IsCore}
 use Rattle.query_unify.proofs.Completeness.{rewriting_is_exact}
 use Rattle.query_unify.proofs.Saturated.{core_is_exact}
 use Rattle.query_unify.proofs.Bound.{IsQuery-normalise, IsQuery-step}
 use Rattle.query_unify.proofs.Shorter.{normalise-short, step_is_no_longer}
 use Rattle.perfect_ref.specs.Plain.{encoded, IsPlainAtom, IsPlain, PlainReachable, PlainCore, Lists}
-use Rattle.perfect_ref.specs.Laws.{IsOverOntology, IsQueryOver, SomeGives, IsSaturated, RewritingGivesAnswers, CoreGivesAnswers, ReachableIsQuery}
+use Rattle.perfect_ref.specs.Laws.{SomeGives, RewritingGivesAnswers, CoreGivesAnswers, CoreAnswersSaturation, ReachableIsQuery}
+use Rattle.dl_syntax.specs.Encode.{IsOverOntology, IsQueryOver}
+use Rattle.dl_syntax.specs.Saturation.{IsSaturated}
 
 -- an atom that becomes a declared fact names no hidden role
 plain_atom : (concepts roles : ℕ) (t : Assignment) (a : Atom) → IsDeclaredFact concepts roles (atom_at t a) → IsPlainAtom roles a
@@ -150,6 +154,10 @@ core_gives_answers o q snapshot facts row over declared saturated = (to, from)
     from certain =
         let found : (member : Cq) × IsCore (encode (length o.roles) o.inclusions) q member × Gives member facts (map ind_element row) = exact.0 (kept.0 certain) in
         (found.0, (found.1, plain_given (length o.concepts) (length o.roles) facts (map ind_element row) found.0 facts_declared found.2), found.2)
+
+pub core_answers_saturation : CoreAnswersSaturation
+core_answers_saturation o q snapshot facts row over declared saturated =
+    core_gives_answers o q snapshot facts row over declared (saturation_is_declared o snapshot facts over saturated).1
 
 -- steps lead from a query within the limits to queries within them, whose heads are as long
 pub Steps-query : (inclusions : List Inclusion) (q q' : Cq) → IsQuery q → Steps inclusions (normalise q) q' → IsQuery q' × (length q'.head ≡ length q.head)

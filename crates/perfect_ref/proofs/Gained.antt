@@ -10,7 +10,7 @@ use Rattle.dl_syntax.specs.declared.ontology.Inclusion.{Inclusion}
 use Rattle.dl_syntax.specs.declared.queries.Atom.{Atom}
 use Rattle.dl_syntax.specs.declared.queries.Cq.{Cq}
 use Rattle.query_unify.specs.Reach.{Replaces, Step, replace, reduce}
-use Rattle.query_unify.specs.Saturation.{MakesNulls}
+use Rattle.dl_syntax.specs.Saturation.{MakesNulls}
 use Rattle.worklist.specs.Reach.{Adds}
 use Rattle.perfect_ref.specs.Rules.{IsFor, MakesFor}
 use Rattle.perfect_ref.specs.Found.{Gains, Somewhere, IsReplacement, IsNullReplacement, IsReduct}

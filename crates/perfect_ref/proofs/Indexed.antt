@@ -17,7 +17,7 @@ use Rattle.dl_syntax.specs.declared.queries.Cq.{Cq}
 use Rattle.dl_syntax.proofs.AllByCons.{Contains-none, All-from_contains}
 use Rattle.dl_syntax.specs.Encode.{IsUnqualified}
 use Rattle.query_unify.specs.Table.{Becomes}
-use Rattle.query_unify.specs.Saturation.{MakesNulls}
+use Rattle.dl_syntax.specs.Saturation.{MakesNulls}
 use Rattle.worklist.specs.Lists.{listed}
 use Rattle.perfect_ref.specs.declared.rules.Side.{Side}
 use Rattle.perfect_ref.specs.declared.rules.Side.TheVariants as side

@@ -3,3 +3,4 @@ pub mod Indexed
 pub mod Answering
 pub mod Collected
 pub mod Reached
+pub mod Counting

@@ -12,7 +12,7 @@ use Rattle.dl_syntax.proofs.AllByCons.{Contains-first, Contains-single, All-from
 use Rattle.query_unify.specs.Substitution.{Substitution, applied_atom, applied_query}
 use Rattle.query_unify.specs.Normal.{same_atom, numbering, normalise}
 use Rattle.query_unify.specs.Reach.{Step, Steps, stay, go, Reach}
-use Rattle.query_unify.specs.Saturation.{IsCore, begin, made}
+use Rattle.query_unify.specs.Core.{IsCore, begin, made}
 use Rattle.query_unify.proofs.NormalForm.{All-first_places}
 use Rattle.worklist.specs.Reach.{Walk, Reaches, IsClosure, ReachesMore}
 use Rattle.perfect_ref.specs.Plain.{IsPlainAtom, IsPlain, PlainReachable, PlainCore, Lists, HoldsOfMore}

@@ -4,7 +4,7 @@ use Rattle.std.specs.List.{All, Contains}
 use Rattle.dl_syntax.specs.declared.ontology.Inclusion.{Inclusion}
 use Rattle.dl_syntax.specs.declared.queries.Cq.{Cq}
 use Rattle.query_unify.specs.Reach.{Replaces, Reduces}
-use Rattle.query_unify.specs.Saturation.{MakesNulls}
+use Rattle.dl_syntax.specs.Saturation.{MakesNulls}
 use Rattle.perfect_ref.specs.Plain.{IsPlain}
 
 -- the new list is the old one followed by exactly what the property holds of, in some order

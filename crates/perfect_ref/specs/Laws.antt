@@ -1,26 +1,16 @@
 -- The rewriting gives exactly the certain answers.
 use Rattle.std.specs.Prelude.{◌≡◌, ◌↔◌, List, length, map}
-use Rattle.std.specs.List.{Contains}
 use Rattle.dl_syntax.specs.declared.names.IndId.{IndId}
 use Rattle.dl_syntax.specs.declared.facts.Element.TheVariants.{Ind as ind_element}
 use Rattle.dl_syntax.specs.declared.facts.Fact.{Fact}
 use Rattle.dl_syntax.specs.declared.queries.Cq.{Cq}
-use Rattle.dl_syntax.specs.Facts.{HasNoNull}
-use Rattle.dl_syntax.specs.Declaring.{IsDeclaredFact}
-use Rattle.dl_syntax.specs.Queries.{IsQuery, IsDeclaredQuery}
+use Rattle.dl_syntax.specs.Queries.{IsQuery}
 use Rattle.dl_syntax.specs.Ontology.{Declared}
-use Rattle.dl_syntax.specs.Encode.{IsOver, IsReached}
+use Rattle.dl_syntax.specs.Encode.{IsOverOntology, IsQueryOver}
+use Rattle.dl_syntax.specs.Saturation.{IsSaturation, IsSaturated}
 use Rattle.dl_syntax.specs.Match.{Certain}
 use Rattle.query_unify.specs.Laws.{Gives}
 use Rattle.perfect_ref.specs.Plain.{encoded, PlainReachable, PlainCore}
-
--- the facts are over the ontology's concepts and roles, and hold no null; their individuals are free
-abbrev pub IsOverOntology : Declared → List Fact → Type 0
-IsOverOntology o snapshot = IsOver (length o.concepts) (length o.roles) o.inclusions snapshot
-
--- the query names only concepts and roles of the ontology
-abbrev pub IsQueryOver : Declared → Cq → Type 0
-IsQueryOver o q = IsDeclaredQuery (length o.concepts) (length o.roles) q
 
 -- some query that the property holds of has a match among the facts that sends its head to the row
 abbrev pub SomeGives : (Cq → Type 0) → List Fact → List IndId → Type 0
@@ -31,14 +21,16 @@ abbrev pub RewritingGivesAnswers : Type 0
 RewritingGivesAnswers = (o : Declared) (q : Cq) (snapshot : List Fact) (row : List IndId) → IsOverOntology o snapshot → IsQueryOver o q →
     SomeGives (PlainReachable (encoded o) q) snapshot row ↔ Certain o.inclusions q snapshot row
 
--- exactly the facts over individuals that some run of the snapshot has
-pub record IsSaturated (o : Declared) (snapshot facts : List Fact) : Type 0 where
-  pub sound : (f : Fact) → Contains facts f → HasNoNull f × IsDeclaredFact (length o.concepts) (length o.roles) f × IsReached o.inclusions snapshot f
-  pub complete : (f : Fact) → HasNoNull f → IsDeclaredFact (length o.concepts) (length o.roles) f → IsReached o.inclusions snapshot f → Contains facts f
-
 -- the certain answers are what the core gives in the saturated facts
 abbrev pub CoreGivesAnswers : Type 0
 CoreGivesAnswers = (o : Declared) (q : Cq) (snapshot facts : List Fact) (row : List IndId) → IsOverOntology o snapshot → IsQueryOver o q → IsSaturated o snapshot facts →
+    SomeGives (PlainCore (encoded o) q) facts row ↔ Certain o.inclusions q snapshot row
+
+-- the same of a saturation
+abbrev pub CoreAnswersSaturation : Type 0
+CoreAnswersSaturation =
+    (o : Declared) (q : Cq) (snapshot facts : List Fact) (row : List IndId) →
+    IsOverOntology o snapshot → IsQueryOver o q → IsSaturation o.inclusions snapshot facts →
     SomeGives (PlainCore (encoded o) q) facts row ↔ Certain o.inclusions q snapshot row
 
 -- each reachable query is within the limits, and its head is as long as the first one's

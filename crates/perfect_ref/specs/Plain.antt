@@ -8,7 +8,7 @@ use Rattle.dl_syntax.specs.declared.queries.Cq.{Cq}
 use Rattle.dl_syntax.specs.Ontology.{Declared}
 use Rattle.dl_syntax.specs.Encode.{encode}
 use Rattle.query_unify.specs.Reach.{Reach}
-use Rattle.query_unify.specs.Saturation.{IsCore}
+use Rattle.query_unify.specs.Core.{IsCore}
 
 -- what rewriting needs of an ontology: the count of its roles, and the inclusions of its encoding, whose hidden roles are numbered from that count on
 pub record Encoded : Type 0 where

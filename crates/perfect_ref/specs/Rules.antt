@@ -8,7 +8,7 @@ use Rattle.dl_syntax.specs.declared.ontology.Inclusion.TheVariants as inclusion
 use Rattle.dl_syntax.specs.declared.queries.Atom.{Atom}
 use Rattle.dl_syntax.specs.declared.queries.Atom.TheVariants as atom
 use Rattle.dl_syntax.specs.Encode.{IsUnqualified}
-use Rattle.query_unify.specs.Saturation.{MakesNulls}
+use Rattle.dl_syntax.specs.Saturation.{MakesNulls}
 use Rattle.worklist.specs.Lists.{listed}
 use Rattle.perfect_ref.specs.declared.rules.Side.{Side}
 use Rattle.perfect_ref.specs.declared.rules.Side.TheVariants as side

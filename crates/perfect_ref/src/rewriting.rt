@@ -7,7 +7,9 @@ ghost use Rattle.dl_syntax.specs.Queries.{IsQuery};
 ghost use Rattle.dl_syntax.specs.Match.{Certain};
 ghost use Rattle.perfect_ref.specs.Found.{Absorbs, Filters, IsCoreOf};
 ghost use Rattle.perfect_ref.specs.Plain.{encoded, IsPlainAtom, IsPlain, Reachable, PlainReachable, PlainCore, Lists, HoldsOf, HoldsOfMore};
-ghost use Rattle.perfect_ref.specs.Laws.{IsOverOntology, IsQueryOver, IsSaturated, SomeGives};
+ghost use Rattle.perfect_ref.specs.Laws.{SomeGives};
+ghost use Rattle.dl_syntax.specs.Encode.{IsOverOntology, IsQueryOver};
+ghost use Rattle.dl_syntax.specs.Saturation.{IsSaturated};
 
 use crate::rules::Rules;
 use crate::successors::push_with_nulls;

@@ -27,7 +27,7 @@ use Rattle.dl_syntax.specs.Facts.{In, role_fact}
 use Rattle.dl_syntax.specs.Chase.{Run, Chase, start, step, Makes, basic_fact}
 use Rattle.dl_syntax.specs.Chase as chase
 use Rattle.dl_syntax.specs.Match.{Match, Assignment, term_at, atom_at}
-use Rattle.dl_syntax.proofs.Nulls.{IsOld, HasOldElements, In-old, nulls_are_old}
+use Rattle.dl_syntax.proofs.Nulls.{IsOld, HasOldElements, In-old, no_null_old, nulls_are_old}
 use Rattle.query_unify.specs.Substitution.{Substitution, applied_atom, applied_query, IsMostGeneral}
 use Rattle.query_unify.specs.Table.{count_in_term, count_in_terms, count_in_atom, count_in_atoms, IsUnbound, IsNew, role_atom, basic_atom, Becomes}
 use Rattle.query_unify.specs.Normal.{first_places, same_atom, numbering, normalise}
@@ -262,10 +262,6 @@ pub individual_old : (n : ℕ) (e : Element) → IsIndividual e → IsOld n e
 individual_old n (ind_element i) is = tt
 individual_old n (Null m) is = absurd is
 
-pub fact_old : (f : Fact) → HasNoNull f → HasOldElements 0 f
-fact_old (fact.Concept c e) is = individual_old 0 e is
-fact_old (fact.Role p x y) is = (individual_old 0 x is.0, individual_old 0 y is.1)
-
 pub row_old : (n : ℕ) (row : List IndId) → All (IsOld n) (map ind_element row)
 row_old n [] = All-nil (IsOld n)
 row_old n (i ∷ row) = All-cons (IsOld n) (ind_element i) (map ind_element row) tt (row_old n row)
@@ -273,7 +269,7 @@ row_old n (i ∷ row) = All-cons (IsOld n) (ind_element i) (map ind_element row)
 pub reach_is_complete : ReachIsComplete
 reach_is_complete inclusions snapshot q row unqualified plain certain =
     complete inclusions snapshot (map ind_element row) unqualified
-    (λ f there. fact_old f (All-contains HasNoNull snapshot f plain there)) (λ n. row_old n row) certain.is_run.0 certain.run certain.is_run.1 (normalise q)
+    (λ f there. no_null_old f (All-contains HasNoNull snapshot f plain there)) (λ n. row_old n row) certain.is_run.0 certain.run certain.is_run.1 (normalise q)
     ((normal_gives_same q certain.run (map ind_element row)).1 (record { assignment = certain.assignment; match = certain.match; head = certain.head }))
 
 pub rewriting_is_exact : RewritingIsExact

@@ -4,4 +4,4 @@ pub mod Table
 pub mod Normal
 pub mod Reach
 pub mod Laws
-pub mod Saturation
+pub mod Core

@@ -1,5 +1,5 @@
 //! Laws of the definitions, each the contract of a function with nothing to do.
-ghost use Rattle.query_unify.specs.Saturation.{CoreIsExact, ReplaceGoesBack, ReduceGoesBack, SaturationIsClosed};
+ghost use Rattle.query_unify.specs.Core.{CoreIsExact, ReplaceGoesBack, ReduceGoesBack};
 ghost use Rattle.query_unify.specs.Laws.{NormalGivesSame, StepIsSound, StepKeepsAnswers, ReachKeepsAnswers, ReachIsSound, ReachIsComplete, RewritingIsExact, ReduceHasOneResult, StepIsNoLonger, NormalIsQuery, StepKeepsQuery, ReplaceHasOneResult};
 
 /// A query and its normal form give the same.
@@ -49,11 +49,10 @@ pub fn core_is_exact()
 {}
 
 /// What the result of a step that makes no nulls gives in facts that are closed under the inclusions that make none,
-/// the query before gives there. Reductions need no closed facts, and saturated facts are closed.
+/// the query before gives there. Reductions need no closed facts.
 pub fn steps_go_back()
     ensures replace { ReplaceGoesBack }
     ensures reduce { ReduceGoesBack }
-    ensures saturated { SaturationIsClosed }
 {}
 
 /// A step leaves the head's length, and makes the body no longer.

@@ -18,7 +18,7 @@ use Rattle.dl_syntax.specs.declared.ontology.Basic.TheVariants as basic
 use Rattle.dl_syntax.specs.declared.ontology.Inclusion.{Inclusion}
 use Rattle.dl_syntax.specs.Facts.{role_fact, HasNoNull}
 use Rattle.dl_syntax.proofs.AllByCons.{All-from_contains, Contains-none, Contains-first, Contains-later, Contains-cons_cases}
-use Rattle.query_unify.specs.Saturation.{IsSaturation}
+use Rattle.dl_syntax.specs.Saturation.{IsSaturation}
 use Rattle.saturate.specs.declared.graph.Scope.{Scope}
 use Rattle.saturate.specs.declared.graph.Scope.TheVariants as scope
 use Rattle.saturate.specs.declared.graph.Place.TheVariants as place

@@ -15,7 +15,7 @@ use Rattle.dl_syntax.specs.declared.ontology.Basic.TheVariants as basic
 use Rattle.dl_syntax.specs.declared.ontology.Inclusion.{Inclusion}
 use Rattle.dl_syntax.specs.declared.ontology.Inclusion.TheVariants as inclusion
 use Rattle.dl_syntax.specs.Facts.{In, role_fact, HasNoNull}
-use Rattle.query_unify.specs.Saturation.{IsSaturation}
+use Rattle.dl_syntax.specs.Saturation.{IsSaturation}
 use Rattle.saturate.specs.declared.graph.Arrow.{Arrow}
 use Rattle.saturate.specs.declared.graph.Scope.TheVariants as scope
 use Rattle.saturate.specs.Derived.{HasPair, given, included, turned, IsInBasic, member, first, below, qualified, wider, wider_turned, inverse_of, IsDerived}

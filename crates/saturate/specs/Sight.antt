@@ -9,7 +9,7 @@ use Rattle.dl_syntax.specs.declared.ontology.Inclusion.{Inclusion}
 use Rattle.dl_syntax.specs.declared.queries.Atom.{Atom}
 use Rattle.dl_syntax.specs.declared.queries.Atom.TheVariants as atom
 use Rattle.dl_syntax.specs.declared.queries.Cq.{Cq}
-use Rattle.query_unify.specs.Saturation.{IsSaturation}
+use Rattle.dl_syntax.specs.Saturation.{IsSaturation}
 use Rattle.saturate.specs.declared.sight.Sight.{Sight}
 
 -- the number is marked

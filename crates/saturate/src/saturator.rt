@@ -1,7 +1,7 @@
 // The facts that a snapshot and an ontology give of individuals.
 ghost use Rattle.std.specs.Prelude.{◌≡◌, [], IfOk, OnOk};
 ghost use Rattle.dl_syntax.specs.Facts.{role_fact as fact_of_role};
-ghost use Rattle.query_unify.specs.Saturation.{IsSaturation};
+ghost use Rattle.dl_syntax.specs.Saturation.{IsSaturation};
 ghost use Rattle.saturate.specs.Lists.{Absorbs};
 ghost use Rattle.saturate.specs.Implied.{IsMembership, IsPairing, Implies, IsImplied, HasAllImplied};
 ghost use Rattle.saturate.specs.Sight.{Seen, IsSeenSaturation};

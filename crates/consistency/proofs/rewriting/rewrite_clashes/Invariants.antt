@@ -1,7 +1,13 @@
-use Rattle.std.proofs.Common.{◌≡◌, ◌≤◌, take}
+use Rattle.std.proofs.Common.{◌≤◌, take}
 use Rattle.std.specs.List.{AllZip}
-use Rattle.consistency.specs.Prepared.{IsRewriting, count_in_all}
+use Rattle.perfect_ref.specs.Counting.{ReachAll}
+use Rattle.consistency.specs.Asking.{queries_of}
+use Rattle.consistency.specs.Prepared.{IsRewriting}
 use Rattle.consistency.proofs.rewriting.rewrite_clashes.Given as goal
 
 abbrev pub invariant-loop-clash : goal.invariant-loop-clash
-invariant-loop-clash l = AllZip (IsRewriting l.rewriter) (take l.clash-index l.clashes) l.each.items × (l.reached ≡ count_in_all l.each.items) × (l.reached ≤ l.room)
+invariant-loop-clash l = record {
+  each : AllZip (IsRewriting l.rewriter) (take l.clash-index l.clashes) l.each.items;
+  counted : ReachAll l.rewriter (queries_of (take l.clash-index l.clashes)) l.reached;
+  few : l.reached ≤ l.room;
+}

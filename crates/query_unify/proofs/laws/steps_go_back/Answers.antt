@@ -1,4 +1,4 @@
-use Rattle.query_unify.proofs.Backwards.{replace_goes_back, reduce_goes_back, saturation_is_closed}
+use Rattle.query_unify.proofs.Backwards.{replace_goes_back, reduce_goes_back}
 use Rattle.query_unify.proofs.laws.steps_go_back.Goals as goal
 
 pub returns-clause-replace : goal.returns-clause-replace
@@ -6,6 +6,3 @@ returns-clause-replace c = replace_goes_back
 
 pub returns-clause-reduce : goal.returns-clause-reduce
 returns-clause-reduce c = reduce_goes_back
-
-pub returns-clause-saturated : goal.returns-clause-saturated
-returns-clause-saturated c = saturation_is_closed

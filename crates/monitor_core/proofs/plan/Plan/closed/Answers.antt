@@ -1,6 +1,6 @@
 use Rattle.std.proofs.Common.{List, subst}
 use Rattle.dl_syntax.specs.declared.ontology.Inclusion.{Inclusion}
-use Rattle.perfect_ref.specs.Laws.{IsOverOntology}
+use Rattle.dl_syntax.specs.Encode.{IsOverOntology}
 use Rattle.perfect_ref.proofs.Reached.{if_ok_weaker}
 use Rattle.saturate.specs.Sight.{IsSeenSaturation}
 use Rattle.monitor_core.proofs.Saturating.{over_ontology}

@@ -1,7 +1,8 @@
 use Rattle.std.proofs.Common.{◌≤◌, take}
 use Rattle.monitor_core.specs.Planning.{AreLeaves, AreAllPlaces, AreTables}
-use Rattle.monitor_core.specs.Opening.{all_leaves, ReachAll}
-use Rattle.monitor_core.proofs.opening.all_leaves_of.Given as goal
+use Rattle.perfect_ref.specs.Counting.{ReachAll}
+use Rattle.monitor_core.specs.Opening.{all_leaves}
+use Rattle.monitor_core.proofs.gathering.all_leaves_of.Given as goal
 
 abbrev pub invariant-loop-query : goal.invariant-loop-query
 invariant-loop-query l = record {

@@ -5,10 +5,11 @@ use Rattle.dl_syntax.specs.declared.queries.Cq.{Cq}
 use Rattle.tcq_syntax.specs.declared.nodes.Node.{Node}
 use Rattle.tcq_syntax.specs.declared.nodes.Node.TheVariants as node
 use Rattle.progression.specs.Tables.{leaves_of}
-use Rattle.monitor_core.specs.Opening.{ReachMore, Gathers}
+use Rattle.perfect_ref.specs.Counting.{ReachMore}
+use Rattle.monitor_core.specs.Opening.{Gathers}
 use Rattle.monitor_core.proofs.Askable.{askable, leaves_parted, leaves_taken}
-use Rattle.monitor_core.proofs.Counting.{more_first}
-use Rattle.monitor_core.proofs.opening.places_of_query.Goals as goal
+use Rattle.perfect_ref.proofs.Counting.{more_first}
+use Rattle.monitor_core.proofs.gathering.places_of_query.Goals as goal
 
 pub add_node-requires-clause-askable : goal.add_node-requires-clause-askable
 add_node-requires-clause-askable c = λ q is.

@@ -1,6 +1,6 @@
 use Rattle.std.proofs.Common.{length, refl}
 use Rattle.std.proofs.lemmas.Option.{slice_get_read}
-use Rattle.monitor_core.proofs.opening.place_of.Goals as goal
+use Rattle.monitor_core.proofs.gathering.place_of.Goals as goal
 
 pub returns-then-asks : goal.returns-then-asks
 returns-then-asks c =

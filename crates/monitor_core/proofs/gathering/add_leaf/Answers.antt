@@ -1,6 +1,7 @@
 use Rattle.std.proofs.Common.{[], ◌∷◌, ◌-◌, ◌∙◌}
-use Rattle.monitor_core.proofs.Counting.{gathers_more, more_later, more_one}
-use Rattle.monitor_core.proofs.opening.add_leaf.Goals as goal
+use Rattle.perfect_ref.proofs.Counting.{more_later, more_one}
+use Rattle.monitor_core.proofs.MorePlaces.{gathers_more}
+use Rattle.monitor_core.proofs.gathering.add_leaf.Goals as goal
 
 pub returns-clause-ok : goal.returns-clause-ok
 returns-clause-ok c = λ front gathered.

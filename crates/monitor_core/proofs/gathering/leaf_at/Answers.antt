@@ -2,7 +2,7 @@ use Rattle.std.proofs.Common.{◌≡◌, List, length, ◌∙◌, subst}
 use Rattle.monitor_core.specs.declared.plan.Leaf.{Leaf}
 use Rattle.monitor_core.specs.Opening.{AsksSame}
 use Rattle.monitor_core.proofs.Placing.{asked_same, asked_count, leaves_push, kept_push, asked_last}
-use Rattle.monitor_core.proofs.opening.leaf_at.Goals as goal
+use Rattle.monitor_core.proofs.gathering.leaf_at.Goals as goal
 
 pub returns-in-Some-clause-at : goal.returns-in-Some-clause-at
 returns-in-Some-clause-at c =

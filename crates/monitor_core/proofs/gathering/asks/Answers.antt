@@ -1,6 +1,6 @@
 use Rattle.std.proofs.Common.{sym, ◌∙◌}
 use Rattle.perfect_ref.proofs.Collected.{cq_exact}
-use Rattle.monitor_core.proofs.opening.asks.Goals as goal
+use Rattle.monitor_core.proofs.gathering.asks.Goals as goal
 
 pub returns : goal.returns
 returns c = (

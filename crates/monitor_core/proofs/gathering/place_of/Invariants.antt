@@ -1,4 +1,4 @@
-use Rattle.monitor_core.proofs.opening.place_of.Given as goal
+use Rattle.monitor_core.proofs.gathering.place_of.Given as goal
 
 abbrev pub invariant-loop-place : goal.invariant-loop-place
 invariant-loop-place l = Unit {0}

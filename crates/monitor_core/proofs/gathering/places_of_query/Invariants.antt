@@ -2,7 +2,7 @@ use Rattle.std.proofs.Common.{◌≤◌, take}
 use Rattle.progression.specs.Tables.{leaves_of}
 use Rattle.monitor_core.specs.Planning.{AreLeaves}
 use Rattle.monitor_core.specs.Opening.{KeepsLeaves, Gathers}
-use Rattle.monitor_core.proofs.opening.places_of_query.Given as goal
+use Rattle.monitor_core.proofs.gathering.places_of_query.Given as goal
 
 abbrev pub invariant-loop-node : goal.invariant-loop-node
 invariant-loop-node l = record {

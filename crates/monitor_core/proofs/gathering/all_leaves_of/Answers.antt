@@ -7,11 +7,12 @@ use Rattle.dl_syntax.specs.declared.queries.Cq.{Cq}
 use Rattle.tcq_syntax.specs.Tcq.{Tcq, IsTcq}
 use Rattle.progression.specs.Tables.{leaves_of}
 use Rattle.monitor_core.specs.Planning.{ArePlacesOf, AreAllPlaces, AreTables}
-use Rattle.monitor_core.specs.Opening.{all_leaves, ReachAll, ReachMore}
+use Rattle.perfect_ref.specs.Counting.{ReachAll, ReachMore}
+use Rattle.monitor_core.specs.Opening.{all_leaves}
 use Rattle.monitor_core.proofs.Askable.{taken_more, all_leaves_parted, all_leaves_taken}
 use Rattle.monitor_core.proofs.Placing.{all_places_kept}
-use Rattle.monitor_core.proofs.Counting.{more_first, more_later, all_joined}
-use Rattle.monitor_core.proofs.opening.all_leaves_of.Goals as goal
+use Rattle.perfect_ref.proofs.Counting.{more_first, more_later, all_joined}
+use Rattle.monitor_core.proofs.gathering.all_leaves_of.Goals as goal
 
 pub returns-in-Err-clause-many : goal.returns-in-Err-clause-many
 returns-in-Err-clause-many c = λ is.

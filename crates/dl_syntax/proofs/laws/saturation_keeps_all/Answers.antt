@@ -1,5 +1,9 @@
-use Rattle.saturate.proofs.Kept.{saturation_keeps_answers, saturation_keeps_clashes, saturation_keeps_consistency}
-use Rattle.saturate.proofs.laws.saturation_keeps_all.Goals as goal
+use Rattle.dl_syntax.proofs.SaturationLaws.{
+  saturation_keeps_answers,
+  saturation_keeps_clashes,
+  saturation_keeps_consistency,
+}
+use Rattle.dl_syntax.proofs.laws.saturation_keeps_all.Goals as goal
 
 pub returns-clause-answers : goal.returns-clause-answers
 returns-clause-answers c = saturation_keeps_answers

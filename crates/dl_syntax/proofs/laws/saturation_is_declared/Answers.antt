@@ -1,0 +1,5 @@
+use Rattle.dl_syntax.proofs.SaturationLaws.{saturation_is_declared}
+use Rattle.dl_syntax.proofs.laws.saturation_is_declared.Goals as goal
+
+pub returns : goal.returns
+returns c = saturation_is_declared
