@@ -14,7 +14,7 @@ use dl_syntax::{
 
 /// Why a line is not added.
 #[derive(Clone, Copy, PartialEq, Eq, Debug)]
-pub(crate) enum LineFault {
+pub enum LineFault {
     Kind(OntologyKind),
     Memory,
 }
@@ -106,7 +106,7 @@ fn part(ontology: &mut Ontology, clash: Clash) -> Result<(), LineFault>
 
 /// Adds what a line says.
 #[tactic(auto, unfolding(crate::specs::Adding::added))]
-pub(crate) fn add(ontology: &mut Ontology, saying: &Saying<'_>) -> Result<(), LineFault>
+pub fn add(ontology: &mut Ontology, saying: &Saying<'_>) -> Result<(), LineFault>
     requires { IsDeclarableSaying (saying_seen saying.now) }
     ensures { Changes result (added ontology.old (saying_seen saying.now)) ontology.new }
 {

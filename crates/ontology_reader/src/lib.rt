@@ -7,6 +7,8 @@ mod sayings;
 mod texts;
 mod words;
 
+pub use adding::{LineFault, add};
+pub use sayings::{BasicTerm, RoleTerm, Saying};
 pub use texts::read_ontology;
 
 /// What is at fault in a text.

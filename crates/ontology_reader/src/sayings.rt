@@ -8,21 +8,21 @@ use dl_syntax::Kind;
 
 /// A role or its inverse, by the role's name.
 #[derive(Clone, Copy, Debug)]
-pub(crate) struct RoleTerm<'a> {
+pub struct RoleTerm<'a> {
     pub role: &'a [u8],
     pub inverse: bool,
 }
 
 /// A concept, or what stands first in some pair of a role.
 #[derive(Clone, Copy, Debug)]
-pub(crate) enum BasicTerm<'a> {
+pub enum BasicTerm<'a> {
     Concept(&'a [u8]),
     Existing(RoleTerm<'a>),
 }
 
 /// What a line says.
 #[derive(Clone, Copy, Debug)]
-pub(crate) enum Saying<'a> {
+pub enum Saying<'a> {
     Nothing,
     Declares(Kind, &'a [u8]),
     Includes(BasicTerm<'a>, BasicTerm<'a>),
