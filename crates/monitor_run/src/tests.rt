@@ -46,7 +46,24 @@ fn whole(stream: &[u8]) -> Ports<'_>
     }
 }
 
-/// Runs a command with the files O and Q, which have these texts.
+/// The files O and Q with these texts.
+fn files_of(alloc: Global, ontology: &[u8], queries: &[u8]) -> Result<MemFiles, Fail> {
+    let mut files = Vec::new(alloc);
+    files.push((String::from_str(alloc, "O")?, ontology.to_vec(alloc)?))?;
+    files.push((String::from_str(alloc, "Q")?, queries.to_vec(alloc)?))?;
+    Ok(MemFiles::new(files, Vec::new(alloc)))
+}
+
+/// These words, owned.
+fn words_of(alloc: Global, words: [&str; 3]) -> Result<Vec<String>, Fail> {
+    let mut owned = Vec::new(alloc);
+    for word in words {
+        owned.push(String::from_str(alloc, word)?)?;
+    }
+    Ok(owned)
+}
+
+/// Runs a command with files, and a stream that comes through ports.
 fn ran(
     alloc: Global,
     words: [&str; 3],
@@ -57,20 +74,14 @@ fn ran(
     requires read { 1 ≤ ports.read_step }
     requires write { 1 ≤ ports.write_step }
 {
-    let mut list = Vec::new(alloc);
-    for word in words {
-        list.push(String::from_str(alloc, word)?)?;
-    }
-    let mut texts = Vec::new(alloc);
-    texts.push((String::from_str(alloc, "O")?, ontology.to_vec(alloc)?))?;
-    texts.push((String::from_str(alloc, "Q")?, queries.to_vec(alloc)?))?;
-    let mut files = MemFiles::new(texts, Vec::new(alloc));
+    let mut files = files_of(alloc, ontology, queries)?;
+    let words = words_of(alloc, words)?;
     let reads = ports.reads.to_vec(alloc)?;
     let mut input = MemSource::new(ports.stream.to_vec(alloc)?, ports.read_step, reads);
     let writes = ports.writes.to_vec(alloc)?;
     let mut out = MemSink::new(alloc, 1024, ports.write_step, writes)?;
     let mut err = MemSink::new(alloc, 256, 256, Vec::new(alloc))?;
-    let status = run(alloc, &list, &mut files, &mut input, &mut out, &mut err);
+    let status = run(alloc, &words, &mut files, &mut input, &mut out, &mut err);
     Ok(Outcome {
         status,
         report: out.bytes().to_vec(alloc)?,
