@@ -5,10 +5,9 @@ use Rattle.std.specs.Str.{bytes_eq}
 use Rattle.dl_syntax.specs.declared.names.Kind.{Kind}
 use Rattle.dl_syntax.specs.declared.names.Kind.TheVariants as as_kind
 use Rattle.dl_syntax.specs.Names.{is_letter, is_name_byte}
-use Rattle.dl_syntax.specs.Ontology.{Declared}
+use Rattle.dl_syntax.specs.Ontology.{Declared, is_declared}
 use Rattle.ontology_reader.specs.declared.OntologyKind.{OntologyKind}
 use Rattle.ontology_reader.specs.Sayings.{RoleTerm, BasicTerm, concept, existing, Saying, nothing, declares, includes, includes_qualified, includes_roles, parts, parts_roles}
-use Rattle.dl_syntax.specs.Ontology.{is_declared}
 use Rattle.ontology_reader.specs.Adding.{added}
 use Rattle.owl_reader.specs.declared.words.Head.{Head}
 use Rattle.owl_reader.specs.declared.words.Head.TheVariants as head
