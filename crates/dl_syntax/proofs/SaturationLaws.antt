@@ -11,7 +11,7 @@ use Rattle.dl_syntax.specs.declared.ontology.Basic.TheVariants as basic
 use Rattle.dl_syntax.specs.declared.ontology.Inclusion.{Inclusion}
 use Rattle.dl_syntax.specs.declared.ontology.Inclusion.TheVariants as inclusion
 use Rattle.dl_syntax.specs.declared.ontology.Clash.{Clash}
-use Rattle.dl_syntax.specs.Facts.{In, role_fact, IsIndividual, HasNoNull}
+use Rattle.dl_syntax.specs.Facts.{role_fact, IsIndividual, HasNoNull}
 use Rattle.dl_syntax.specs.Declaring.{IsDeclaredInclusion, IsDeclaredFact}
 use Rattle.dl_syntax.specs.Chase.{Chase, Step, start, step, Makes, Follows, basic_fact}
 use Rattle.dl_syntax.specs.Encode.{IsMet, IsReached}

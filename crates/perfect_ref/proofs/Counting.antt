@@ -1,5 +1,5 @@
 -- Laws of how many queries several ones reach in all.
-use Rattle.std.proofs.Common.{◌≡◌, ℕ, ◌+◌, ◌-◌, ◌<◌, ◌≤◌, List, [], ◌∷◌, ◌++◌, length, refl, ◌∙◌, ap, subst, arith, inl, inr, length-append}
+use Rattle.std.proofs.Common.{◌≡◌, ℕ, ◌+◌, ◌-◌, ◌<◌, ◌≤◌, List, [], ◌∷◌, ◌++◌, length, refl, sym, ◌∙◌, ap, subst, arith, inl, inr, length-append}
 use Rattle.std.specs.Prelude.{◌≢◌}
 use Rattle.std.specs.List.{AllPairs, AllZip, Contains}
 use Rattle.std.proofs.lemmas.List.Sums.{sum_by-cons, sum_by-append}
@@ -142,3 +142,8 @@ module _ (e : Encoded) where
         each = joined (AreReached e) front (q ∷ rest) (nothing front) one.lists (some_nothing front) one.each;
         more = omega arith;
       }
+
+  pub more_contained : (qs : List Cq) (q : Cq) (room : ℕ) → Contains qs q → HoldsOfMore (Reachable e q) room → ReachMore e qs room
+  more_contained qs q room there more =
+      let parts : (front : List Cq) × (back : List Cq) × (qs ≡ front ++ q ∷ back) = split qs q there in
+      subst (λ (zs : List Cq). ReachMore e zs room) (sym parts.2) (more_among parts.0 parts.1 q room more)

@@ -1,5 +1,5 @@
 -- A text is declared where its kind is found.
-use Rattle.std.proofs.Common.{sym, ◌∙◌}
+use Rattle.std.proofs.Common.{◌∙◌}
 use Rattle.dl_syntax.proofs.Numbers.{declared_said, kind_decides}
 use Rattle.dl_syntax.proofs.ontology.Ontology.is_declared.Goals as goal
 
