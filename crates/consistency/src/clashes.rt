@@ -94,8 +94,10 @@ impl Clashes {
 
 // The clashes of an ontology with the rewritings of their queries.
 fn assembled(alloc: Global, ontology: &Ontology, made: Rewritings) -> Result<Clashes, Memory>
-    requires each { AllZip (IsRewriting (encoded ontology.now)) ontology.now.clashes made.each.items }
-    requires counted { ReachAll (encoded ontology.now) (queries_of ontology.now.clashes) made.reached }
+    requires each { AllZip (IsRewriting (encoded ontology.now))
+        ontology.now.clashes made.each.items }
+    requires counted { ReachAll (encoded ontology.now)
+        (queries_of ontology.now.clashes) made.reached }
     ensures made_for { IfOk result (λ clashes. IsPreparedFor clashes ontology.now) }
     ensures reached { IfOk result (λ clashes. clashes.reached ≡ made.reached) }
 {
