@@ -1,5 +1,5 @@
 -- The lists of sets that are kept are no longer in all than the units of the queries.
-use Rattle.std.proofs.Common.{◌≡◌, ℕ, zero, suc, ◌+◌, ◌*◌, ◌^◌, ◌<◌, ◌≤◌, List, [], ◌∷◌, ◌++◌, length, get_or, refl, sym, ◌∙◌, ap, subst, inl, inr, arith, bit_or}
+use Rattle.std.proofs.Common.{◌≡◌, ℕ, zero, suc, ◌*◌, ◌^◌, ◌<◌, ◌≤◌, List, [], ◌∷◌, ◌++◌, length, get_or, refl, sym, ◌∙◌, ap, subst, inl, inr, arith, bit_or}
 use Rattle.std.specs.Prelude.{All, AllPairs}
 use Rattle.std.specs.List.{AllZip, Contains, sum_by}
 use Rattle.std.proofs.Math.Nat.{mul-le-mul_left}

@@ -1,11 +1,9 @@
 use Rattle.std.proofs.Common.{List, sym, subst}
-use Rattle.std.specs.List.{AllZip}
 use Rattle.dl_syntax.specs.declared.ontology.Clash.{Clash}
 use Rattle.perfect_ref.specs.Plain.{Encoded, encoded}
 use Rattle.perfect_ref.specs.Counting.{ReachAll}
 use Rattle.perfect_ref.proofs.Counting.{no_more}
 use Rattle.consistency.specs.Asking.{queries_of}
-use Rattle.consistency.specs.Prepared.{IsRewriting}
 use Rattle.consistency.proofs.clashes.prepare.Goals as goal
 use Rattle.consistency.proofs.clashes.prepare.Goals.{After-assembled}
 
