@@ -14,7 +14,8 @@ use Rattle.tcq_syntax.specs.Tcq.{Tcq}
 use Rattle.perfect_ref.specs.Plain.{Encoded, encoded}
 use Rattle.consistency.specs.Asking.{query_of}
 use Rattle.progression.specs.Tables.{leaves_of as leaves_in}
-use Rattle.monitor_core.specs.Opening.{all_leaves, starts, AreReached as CoreReached, ReachMore, HasMoreRewritings}
+use Rattle.perfect_ref.specs.Counting.{AreReached as CoreReached, ReachMore}
+use Rattle.monitor_core.specs.Opening.{all_leaves, starts, HasMoreRewritings}
 use Rattle.monitor_run.specs.Leaves.{NamedLeaf, leaves_from, leaves_of, leaves, asked}
 use Rattle.monitor_run.specs.Reaching.{clash_query, rewritten, Reaches, ReachesMore, most_rewritings, AreTooMany}
 use Rattle.monitor_run.proofs.Counts.{reaches_append}

@@ -11,10 +11,10 @@ use Rattle.dl_syntax.specs.declared.facts.Element.{Element}
 use Rattle.dl_syntax.specs.declared.facts.Element.TheVariants.{Ind}
 use Rattle.dl_syntax.specs.declared.facts.Fact.{Fact}
 use Rattle.dl_syntax.specs.declared.facts.Fact.TheVariants as fact
-use Rattle.dl_syntax.specs.Ontology.{Declared, names_of}
+use Rattle.dl_syntax.specs.Ontology.{Declared, names_of, number_of}
 use Rattle.forms.specs.declared.StreamForm.{StreamForm}
 use Rattle.snapshot_reader.specs.Written.{Written, unary, binary, Line, blank, malformed, writes, line_writes}
-use Rattle.snapshot_reader.specs.Said.{◌>>=◌, number_of, individual_of, fact_of, same_fact, with_fact, distinct, Cause, refused, says, cause_of, facts_say, line_says, said}
+use Rattle.snapshot_reader.specs.Said.{◌>>=◌, individual_of, fact_of, same_fact, with_fact, distinct, Cause, refused, says, cause_of, facts_say, line_says, said}
 use Rattle.monitor_core.specs.Answering.{IsOver, IsOverElement, AreOver}
 
 number_below : (kind : Kind) (o : Declared) (text : List ℕ) (n : ℕ) → number_of kind o text ≡ Some n → n < length (names_of kind o)
