@@ -1,0 +1,6 @@
+-- The lemmas' files, lowest first.
+pub mod Lookups
+pub mod Sides
+pub mod Lists
+pub mod Modelling
+pub mod Findings

@@ -1,0 +1,10 @@
+-- Answers to the goals of `first_broken`: an inclusion that is not satisfied has a fact whose right
+-- side is missing.
+use Rattle.model_audit.proofs.Findings.{unsatisfied_has_fact}
+use Rattle.model_audit.proofs.examining.first_broken.Goals as goal
+
+pub returns-in-None-first_unkept : goal.returns-in-None-first_unkept
+returns-in-None-first_unkept c =
+    absurd (unsatisfied_has_fact c.args.index.now c.args.facts.now c.requires.same
+    c.args.inclusions.now c.in-Some.before _
+    c.in-Some.ensures c.in-None-first_unkept.ensures)

@@ -1,0 +1,24 @@
+-- Answers to the goals of `first_unsatisfied`: what is there at each place.
+use Rattle.std.proofs.Common.{arith}
+use Rattle.std.proofs.lemmas.List.Elements.{All-more}
+use Rattle.model_audit.specs.FiniteModels.{Satisfies}
+use Rattle.model_audit.proofs.Lists.{lacks_here, all_have}
+use Rattle.model_audit.proofs.first.first_unsatisfied.Goals as goal
+
+pub loop-place-preserved : goal.loop-place-preserved
+loop-place-preserved c =
+    All-more (Satisfies c.args.index.now) c.args.inclusions.now c.loop-place.place _
+    c.loop-place-test.true c.loop-place.invariant
+    (c.is_satisfied.ensures.0 c.if-not-is_satisfied.false)
+
+pub returns-then-not-is_satisfied : goal.returns-then-not-is_satisfied
+returns-then-not-is_satisfied c =
+    lacks_here (Satisfies c.args.index.now) c.args.inclusions.now c.loop-place.place _
+    c.loop-place-test.true c.loop-place.invariant
+    (λ there. let found = c.is_satisfied.ensures.1 there in let lost = c.if-not-is_satisfied.true in
+    cc)
+
+pub returns : goal.returns
+returns c =
+    all_have (Satisfies c.args.index.now) c.args.inclusions.now c.loop-place.place (omega arith)
+    c.loop-place.invariant

@@ -1,0 +1,6 @@
+-- The definitions, lowest first.
+pub mod FiniteModels
+pub mod Clashes
+pub mod First
+pub mod Examining
+pub mod Laws
