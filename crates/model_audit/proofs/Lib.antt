@@ -4,3 +4,6 @@ pub mod Sides
 pub mod Lists
 pub mod Modelling
 pub mod Findings
+pub mod Selecting
+pub mod Leaves
+pub mod Certain

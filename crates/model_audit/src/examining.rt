@@ -2,6 +2,7 @@
 ghost use Rattle.std.specs.Prelude.{◌≡◌, ◌≤◌, ◌<◌, ◌^◌, ◌↔◌, length, Contains, IfOk, MatchOption};
 ghost use Rattle.std.specs.List.{All};
 ghost use Rattle.dl_syntax.specs.declared.facts.Fact.{Fact as FactValue};
+ghost use Rattle.dl_syntax.specs.Facts.{HasNoNull};
 ghost use Rattle.dl_syntax.specs.Chase.{IsConsistent};
 ghost use Rattle.model_audit.specs.FiniteModels.{Satisfies, IsFiniteModel};
 ghost use Rattle.model_audit.specs.Examining.{IsBroken, IsFoundIn, IsFound};
@@ -88,6 +89,7 @@ pub fn examine(
     ensures model { IfOk result
         (λ f. (f ≡ Finding.Model)
         ↔ IsFiniteModel ontology.now.inclusions ontology.now.clashes snapshot.now model.now) }
+    ensures plain { IfOk result (λ _. All HasNoNull snapshot.now) }
     ensures consistent { IfOk result
         (λ f. f ≡ Finding.Model
         → IsConsistent ontology.now.inclusions ontology.now.clashes snapshot.now) }

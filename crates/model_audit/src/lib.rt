@@ -5,6 +5,7 @@
 //! answer has a match in it. The definitions are told without the chase.
 #![tactic(auto)]
 
+mod auditing;
 mod clashes;
 mod examining;
 mod facts;
@@ -12,5 +13,9 @@ mod first;
 mod holding;
 mod inclusions;
 pub mod laws;
+mod outcome;
+mod rows;
 
+pub use auditing::audit;
 pub use examining::{Finding, examine};
+pub use outcome::Audit;
