@@ -33,7 +33,8 @@ HasRows facts count queries (audit.Model rows) = AreRowsOfQueries facts count qu
 -- each certain tuple of declared individuals is among the rows
 abbrev pub AreAmong : List Inclusion → List Fact → ℕ → Cq → Relation → Type 0
 AreAmong inclusions snapshot count q rows =
-    (row : List IndId) → All (IsDeclared count) row → Certain inclusions q snapshot row → Contains rows.rows row
+    (row : List IndId) → All (IsDeclared count) row → Certain inclusions q snapshot row
+    → Contains rows.rows row
 
 -- and so for each leaf of each query
 abbrev pub HasCertain : List Inclusion → List Fact → ℕ → List Tcq → Audit → Type 0
@@ -43,4 +44,5 @@ HasCertain inclusions snapshot count queries (audit.Clash number) = Unit {0}
 HasCertain inclusions snapshot count queries (audit.Model rows) =
     AllZip
     (λ query (each : Vec Relation Global).
-    AllZip (AreAmong inclusions snapshot count) (leaf_queries query.nodes) each.items) queries rows.items
+    AllZip (AreAmong inclusions snapshot count) (leaf_queries query.nodes) each.items) queries
+    rows.items

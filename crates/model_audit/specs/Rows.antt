@@ -25,13 +25,16 @@ leaf_queries (_ ∷ nodes) = leaf_queries nodes
 -- exactly the rows of declared individuals with a match in the facts
 pub record AreRowsOf (facts : List Fact) (count : ℕ) (q : Cq) (rows : Relation) : Type 0 where
   pub wide : rows.arity ≡ length q.head
-  pub member : (row : List IndId) → Contains rows.rows row ↔ (IsAnswer facts q row × All (IsDeclared count) row)
+  pub member : (row : List IndId) → Contains rows.rows row
+      ↔ (IsAnswer facts q row × All (IsDeclared count) row)
 
 -- those of each leaf of the query
 abbrev pub AreRowsOfQuery : List Fact → ℕ → Tcq → List Relation → Type 0
-AreRowsOfQuery facts count query rows = AllZip (AreRowsOf facts count) (leaf_queries query.nodes) rows
+AreRowsOfQuery facts count query rows =
+    AllZip (AreRowsOf facts count) (leaf_queries query.nodes) rows
 
 -- those of each query
 abbrev pub AreRowsOfQueries : List Fact → ℕ → List Tcq → List (Vec Relation Global) → Type 0
 AreRowsOfQueries facts count queries rows =
-    AllZip (λ query (each : Vec Relation Global). AreRowsOfQuery facts count query each.items) queries rows
+    AllZip (λ query (each : Vec Relation Global). AreRowsOfQuery facts count query each.items)
+    queries rows

@@ -28,7 +28,8 @@ fn is_apart(index: &Index, clash: &Clash, fact: &Fact) -> bool
 
 /// The facts of the first side.
 fn on_left<'a>(index: &'a Index, clash: &Clash) -> &'a [Fact]
-    ensures { (f : FactValue) → Contains result.now f ↔ (Contains index.now f × IsOnLeft clash.now f) }
+    ensures { (f : FactValue) → Contains result.now f
+        ↔ (Contains index.now f × IsOnLeft clash.now f) }
 {
     match clash {
         Clash::Concepts(one, _) => members_of(index, one),
@@ -42,7 +43,8 @@ fn all_apart(index: &Index, clash: &Clash, facts: &[Fact]) -> bool
     facts.iter().all(|fact| is_apart(index, clash, fact))
 }
 
-/// Whether no element or pair is in both sides of the clash. Only the facts of its first side are looked at.
+/// Whether no element or pair is in both sides of the clash. Only the facts of its first side are
+/// looked at.
 pub fn is_avoided(index: &Index, clash: &Clash) -> bool
     ensures { IsTrue result ↔ Avoids index.now clash.now }
 {

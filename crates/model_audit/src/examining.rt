@@ -18,7 +18,8 @@ use std::alloc::Global;
 pub enum Finding {
     /// The least place of a fact of the snapshot that the list lacks.
     Missing(u32),
-    /// The least inclusion, counted from 1, and the least place of a fact whose right side is missing.
+    /// The least inclusion, counted from 1, and the least place of a fact whose right side is
+    /// missing.
     Broken { inclusion: u32, fact: u32 },
     /// The least clash that the list meets, counted from 1.
     Clash(u32),
@@ -33,7 +34,8 @@ struct Breach {
     fact: u32,
 }
 
-/// The first inclusion that the facts don't satisfy, and the first fact whose right side is missing.
+/// The first inclusion that the facts don't satisfy, and the first fact whose right side is
+/// missing.
 fn first_broken(index: &Index, inclusions: &[Inclusion], facts: &[Fact]) -> Option<Breach>
     requires few { length inclusions.now ≤ 16384 }
     requires small { length facts.now < 2 ^ 32 }
@@ -75,7 +77,8 @@ fn found(index: &Index, ontology: &Ontology, snapshot: &[Fact], facts: &[Fact]) 
     Finding::Model
 }
 
-/// What a list of facts lacks of a finite model of the snapshot, and `Model` exactly where it is one, which shows that the
+/// What a list of facts lacks of a finite model of the snapshot, and `Model` exactly where it is
+/// one, which shows that the
 /// snapshot is consistent.
 pub fn examine(
     alloc: Global,

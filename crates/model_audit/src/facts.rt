@@ -1,6 +1,10 @@
 //! What a fact says of elements.
 ghost use Rattle.std.specs.Prelude.{◌≡◌};
-ghost use Rattle.dl_syntax.specs.Facts.{pair_in as pair_of, element_in as element_of, role_fact as fact_of_role};
+ghost use Rattle.dl_syntax.specs.Facts.{
+  pair_in as pair_of,
+  element_in as element_of,
+  role_fact as fact_of_role,
+};
 
 use dl_syntax::{Basic, Element, Fact, Role};
 

@@ -12,14 +12,16 @@ use fact_index::{Index, with_first, with_last};
 
 /// The facts that make a pair of the role.
 pub fn pairs_of<'a>(index: &'a Index, role: &Role) -> &'a [Fact]
-    ensures { (f : FactValue) → Contains result.now f ↔ (Contains index.now f × ((e other : ElementValue) × Pair role.now e other f)) }
+    ensures { (f : FactValue) → Contains result.now f
+        ↔ (Contains index.now f × ((e other : ElementValue) × Pair role.now e other f)) }
 {
     index.role(role.id, role.inverse)
 }
 
 /// The facts that put an element into the basic concept.
 pub fn members_of<'a>(index: &'a Index, basic: &Basic) -> &'a [Fact]
-    ensures { (f : FactValue) → Contains result.now f ↔ (Contains index.now f × ((e : ElementValue) × In basic.now e f)) }
+    ensures { (f : FactValue) → Contains result.now f
+        ↔ (Contains index.now f × ((e : ElementValue) × In basic.now e f)) }
 {
     match basic {
         Basic::Concept(id) => index.concept(*id),
@@ -29,7 +31,8 @@ pub fn members_of<'a>(index: &'a Index, basic: &Basic) -> &'a [Fact]
 
 /// The facts that make the element the first of a pair of the role.
 fn partners<'a>(index: &'a Index, role: &Role, element: Element) -> &'a [Fact]
-    ensures { (f : FactValue) → Contains result.now f ↔ (Contains index.now f × ((e : ElementValue) × Pair role.now element e f)) }
+    ensures { (f : FactValue) → Contains result.now f
+        ↔ (Contains index.now f × ((e : ElementValue) × Pair role.now element e f)) }
 {
     if role.inverse {
         with_last(index.role(role.id, true), element)

@@ -32,7 +32,8 @@ pub fn keeps(index: &Index, inclusion: &Inclusion, fact: &Fact) -> bool
 
 /// The facts that make the left side true.
 fn applied<'a>(index: &'a Index, inclusion: &Inclusion) -> &'a [Fact]
-    ensures { (f : FactValue) → Contains result.now f ↔ (Contains index.now f × Applies inclusion.now f) }
+    ensures { (f : FactValue) → Contains result.now f
+        ↔ (Contains index.now f × Applies inclusion.now f) }
 {
     match inclusion {
         Inclusion::Concepts(below, _) => members_of(index, below),

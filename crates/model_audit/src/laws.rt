@@ -1,7 +1,12 @@
 //! Laws of finite models, each the contract of a function with nothing to do.
-ghost use Rattle.model_audit.specs.Laws.{FiniteModelsAreModels, FiniteModelsShowConsistency, CertainAnswersMatch};
+ghost use Rattle.model_audit.specs.Laws.{
+  FiniteModelsAreModels,
+  FiniteModelsShowConsistency,
+  CertainAnswersMatch,
+};
 
-/// A finite list of facts over individuals is a finite model of a snapshot exactly where it is one of its models, the
+/// A finite list of facts over individuals is a finite model of a snapshot exactly where it is one
+/// of its models, the
 /// elements of which are the individuals.
 pub fn finite_models_are_models()
     ensures { FiniteModelsAreModels }

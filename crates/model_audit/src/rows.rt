@@ -1,12 +1,32 @@
 //! The rows of declared individuals with a match in the facts of an index.
-ghost use Rattle.std.specs.Prelude.{◌≡◌, ◌≤◌, ◌⊎◌, ◌↔◌, ◌++◌, ◌∷◌, [], length, Contains, IsTrue, IfOk, OnOk, List};
+ghost use Rattle.std.specs.Prelude.{
+  ◌≡◌,
+  ◌≤◌,
+  ◌⊎◌,
+  ◌↔◌,
+  ◌++◌,
+  ◌∷◌,
+  [],
+  length,
+  Contains,
+  IsTrue,
+  IfOk,
+  OnOk,
+  List,
+};
 ghost use Rattle.std.specs.List.{All, AllZip};
 ghost use Rattle.dl_syntax.specs.declared.names.IndId.{IndId as IndValue};
 ghost use Rattle.dl_syntax.specs.declared.queries.Cq.{Cq as CqValue};
 ghost use Rattle.dl_syntax.specs.Queries.{IsQuery};
 ghost use Rattle.dl_syntax.specs.Rows.{IsRising, IsAboveLast};
 ghost use Rattle.tcq_syntax.specs.declared.nodes.Node.TheVariants as node_kinds;
-ghost use Rattle.model_audit.specs.Rows.{IsDeclared, AreRowsOf, AreRowsOfQuery, AreRowsOfQueries, leaf_queries};
+ghost use Rattle.model_audit.specs.Rows.{
+  IsDeclared,
+  AreRowsOf,
+  AreRowsOfQuery,
+  AreRowsOfQueries,
+  leaf_queries,
+};
 
 use dl_syntax::{Cq, IndId, Memory, Tuples};
 use fact_index::Index;

@@ -9,9 +9,12 @@ use Rattle.model_audit.proofs.rows.add_rows.Goals as goal
 
 pub returns-in_ok-push-in-Leaf : goal.returns-in_ok-push-in-Leaf
 returns-in_ok-push-in-Leaf c = λ front zipped.
-    subst (λ (n : Node). AllZip (AreRowsOf c.args.index.now c.args.count) (front ++ leaf_queries (n ∷ [])) c.push.new.self.items)
+    subst (λ (n : Node).
+    AllZip (AreRowsOf c.args.index.now c.args.count) (front ++ leaf_queries (n ∷ []))
+    c.push.new.self.items)
     (sym c.in-Leaf.is)
-    (subst (λ (rows : List Relation). AllZip (AreRowsOf c.args.index.now c.args.count) (front ++ c.in-Leaf.query ∷ []) rows)
+    (subst (λ (rows : List Relation).
+    AllZip (AreRowsOf c.args.index.now c.args.count) (front ++ c.in-Leaf.query ∷ []) rows)
     (sym c.in_ok-push-in-Leaf.ensures.items)
     (zip_added (AreRowsOf c.args.index.now c.args.count) front c.args.rows.now.items c.in-Leaf.query
     c.in_ok-found-in-Leaf.found zipped c.in_ok-found-in-Leaf.ensures))

@@ -13,21 +13,27 @@ pub keep_row-requires-clause-above : goal.keep_row-requires-clause-above
 keep_row-requires-clause-above c =
     let within : c.loop-place.place < length c.args.rows.now.rows = omega arith in
     subst (λ (row : List IndId). IsAboveLast row c.loop-place.kept.rows)
-    (get_or_from_slice_get c.args.rows.now.rows c.loop-place.place c.row.result.now c.row.result.now c.row.ensures)
-    (row_above c.args.count c.args.rows.now c.loop-place.kept c.loop-place.place c.row.result.now within
+    (get_or_from_slice_get c.args.rows.now.rows c.loop-place.place c.row.result.now c.row.result.now
+    c.row.ensures)
+    (row_above c.args.count c.args.rows.now c.loop-place.kept c.loop-place.place c.row.result.now
+    within
     c.loop-place.invariant c.requires.rising)
 
 pub loop-place-preserved : goal.loop-place-preserved
 loop-place-preserved c =
     let within : c.loop-place.place < length c.args.rows.now.rows = omega arith in
     let is : get_or c.args.rows.now.rows c.loop-place.place c.row.result.now ≡ c.row.result.now =
-    get_or_from_slice_get c.args.rows.now.rows c.loop-place.place c.row.result.now c.row.result.now c.row.ensures in
-    kept_next c.args.count c.args.rows.now c.loop-place.kept c.loop-place.place c.row.result.now within
+    get_or_from_slice_get c.args.rows.now.rows c.loop-place.place c.row.result.now c.row.result.now
+    c.row.ensures in
+    kept_next c.args.count c.args.rows.now c.loop-place.kept c.loop-place.place c.row.result.now
+    within
     c.loop-place.invariant c.keep_row.new.kept c.in_ok-keep_row.ensures.wide
     (subst (λ (row : List IndId). (other : List IndId) → Contains c.keep_row.new.kept.rows other
-    ↔ (Contains c.loop-place.kept.rows other ⊎ ((other ≡ row) × All (IsDeclared c.args.count) other))) (sym is)
+    ↔ (Contains c.loop-place.kept.rows other
+    ⊎ ((other ≡ row) × All (IsDeclared c.args.count) other))) (sym is)
     c.in_ok-keep_row.ensures.rows)
 
 pub returns-clause-rows : goal.returns-clause-rows
 returns-clause-rows c =
-    kept_all c.args.count c.args.rows.now c.loop-place.kept c.loop-place.place (omega arith) c.loop-place.invariant
+    kept_all c.args.count c.args.rows.now c.loop-place.kept c.loop-place.place (omega arith)
+    c.loop-place.invariant

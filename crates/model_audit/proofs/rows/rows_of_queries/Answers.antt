@@ -10,9 +10,12 @@ use Rattle.model_audit.proofs.rows.rows_of_queries.Goals as goal
 
 pub loop-query-preserved : goal.loop-query-preserved
 loop-query-preserved c =
-    zip_next (λ (query : Tcq) (each : Vec Relation Global). AreRowsOfQuery c.args.index.now c.args.count query each.items)
-    c.args.queries.now c.loop-query.rows.items c.push.new.self.items c.loop-query.query-index c.query-item.result
+    zip_next (λ (query : Tcq) (each : Vec Relation Global).
+    AreRowsOfQuery c.args.index.now c.args.count query each.items)
+    c.args.queries.now c.loop-query.rows.items c.push.new.self.items c.loop-query.query-index
+    c.query-item.result
     c.in_ok-each.each c.loop-query-test.true c.loop-query.invariant
-    (subst (λ (query : Tcq). AreRowsOfQuery c.args.index.now c.args.count query c.in_ok-each.each.items) c.query-item.is
+    (subst (λ (query : Tcq).
+    AreRowsOfQuery c.args.index.now c.args.count query c.in_ok-each.each.items) c.query-item.is
     c.in_ok-each.ensures)
     c.in_ok-push.ensures.items
