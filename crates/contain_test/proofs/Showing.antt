@@ -34,7 +34,7 @@ use Rattle.models.specs.Containment.{
 use Rattle.models.proofs.Freezing.{own_row, frozen_plain, containment_is_certainty}
 use Rattle.models.proofs.Entailed.{fewer_keeps_consistency}
 use Rattle.contain_test.specs.Deciding.{IsMatched, IsUnmatched, IsFrozen, IsDecided}
-use Rattle.contain_test.specs.Contained.{IsQueryOf, IsContainedUnder, Separates, IsShown}
+use Rattle.contain_test.specs.Contained.{IsQueryOf, IsContainedUnder, Separates, IsShown, IsExactBy}
 use Rattle.contain_test.specs.declared.deciding.Containment.{Containment}
 use Rattle.contain_test.specs.declared.deciding.Containment.TheVariants.{Yes, No}
 use Rattle.contain_test.proofs.Normal.{normal_below, normal_declared, to_normal, from_normal}
@@ -273,3 +273,13 @@ module _ (o : Declared) (first second : Cq) (union : List Cq) (first_is : IsQuer
         unmatched_separates facts row is unmatched in
         absurd (shown.no_answer (contained facts row shown.over shown.consistent shown.answer)),
   )
+
+-- what is decided by a rewriting is exact for each query that has it
+pub decided_by : (o : Declared) (first : Cq) (union : List Cq) (c : Containment)
+    → IsQueryOf o first
+    → All (IsDeclaredInclusion (length o.concepts) (length o.roles)) o.inclusions
+    → IsDecided o first union c → IsExactBy o first union c
+decided_by o first union c first_is inclusions decided second second_is listed = record {
+  exact = decided_exact o first second union first_is second_is inclusions listed c decided;
+  shown = decided_shown o first second union first_is second_is inclusions listed c decided;
+}

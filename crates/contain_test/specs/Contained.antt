@@ -1,11 +1,12 @@
 -- When a conjunctive query is contained in another under an ontology, after Johnson and Klug 1984.
-use Rattle.std.specs.Prelude.{List, length}
+use Rattle.std.specs.Prelude.{◌≡◌, ◌↔◌, List, length}
 use Rattle.dl_syntax.specs.declared.names.IndId.{IndId}
 use Rattle.dl_syntax.specs.declared.facts.Fact.{Fact}
 use Rattle.dl_syntax.specs.declared.queries.Cq.{Cq}
 use Rattle.dl_syntax.specs.Queries.{IsQuery}
 use Rattle.dl_syntax.specs.Ontology.{Declared}
 use Rattle.dl_syntax.specs.Match.{Certain}
+use Rattle.perfect_ref.specs.Plain.{encoded, Lists, PlainReachable}
 use Rattle.perfect_ref.specs.Laws.{IsOverOntology, IsQueryOver}
 use Rattle.consistency.specs.Least.{IsConsistentUnder}
 use Rattle.models.specs.Containment.{IsBelow}
@@ -46,3 +47,16 @@ pub record Separates (o : Declared) (first second : Cq) (facts : List Fact)
 abbrev pub IsShown : Declared → Cq → Cq → Containment → Type 0
 IsShown o first second Yes = Unit {0}
 IsShown o first second (No facts row) = Separates o first second facts row
+
+-- yes exactly where the first query is contained in the second, and what is said against containment shows it
+pub record IsExact (o : Declared) (first second : Cq) (c : Containment) : Type 0 where
+  pub exact : (c ≡ Yes) ↔ IsContainedUnder o first second
+  pub shown : IsShown o first second c
+
+-- so it is for each second query whose rewriting is this union
+abbrev pub IsExactBy : Declared → Cq → List Cq → Containment → Type 0
+IsExactBy o first union c =
+    (second : Cq)
+    → IsQueryOf o second
+    → Lists (PlainReachable (encoded o) second) union
+    → IsExact o first second c

@@ -3,18 +3,17 @@ ghost use Rattle.std.specs.Prelude.{◌≡◌, ◌↔◌, length, IsTrue, IfOk};
 ghost use Rattle.std.specs.Bool.{OnTrue, OnFalse};
 ghost use Rattle.std.specs.List.{All};
 ghost use Rattle.dl_syntax.specs.Queries.{IsQuery};
-ghost use Rattle.dl_syntax.specs.Ontology.{IsOntology};
 ghost use Rattle.dl_syntax.specs.Ontology.{Declared};
-ghost use Rattle.contain_test.specs.Contained.{IsQueryOf, IsContainedUnder, IsShown};
+ghost use Rattle.contain_test.specs.Contained.{IsQueryOf, IsContainedUnder, IsShown, IsExactBy};
 ghost use Rattle.contain_test.specs.Rewritings.{ReachMoreTogether};
-ghost use Rattle.contain_test.specs.Deciding.{IsMatched, IsUnmatched, IsDecided};
+ghost use Rattle.contain_test.specs.Deciding.{IsMatched, IsUnmatched};
 ghost use Rattle.perfect_ref.specs.Laws.{IsOverOntology};
 ghost use Rattle.consistency.specs.Prepared.{IsPreparedFor};
 
-use crate::asking::{Asked, asked_for};
+use crate::asking::asked_for;
 use crate::binding::has_row_in_union;
 use crate::frozen::{Frozen, freeze};
-use consistency::first_clash;
+use consistency::{Clashes, first_clash};
 use dl_syntax::{Cq, Kind, Memory, Ontology, Row, Snapshot};
 use fact_index::build::index;
 use perfect_ref::RewriteFault;
@@ -30,45 +29,51 @@ pub enum Containment {
 }
 
 /// Whether the frozen query is inconsistent, or has its row among the answers of the union.
-fn is_matched(alloc: Global, frozen: &Frozen, asked: &Asked) -> Result<bool, Memory>
-    requires queries { All IsQuery asked.now.union.items }
-    requires wide { All (λ q. length q.head ≡ length frozen.now.row) asked.now.union.items }
+fn is_matched(
+    alloc: Global,
+    frozen: &Frozen,
+    union: &[Cq],
+    clashes: &Clashes,
+) -> Result<bool, Memory>
+    requires queries { All IsQuery union.now }
+    requires wide { All (λ q. length q.head ≡ length frozen.now.row) union.now }
     ensures matched { IfOk result
         (λ matched. (o : Declared)
-        → IsPreparedFor asked.now.clashes o
+        → IsPreparedFor clashes.now o
         → IsOverOntology o frozen.now.facts
-        → OnTrue matched
-        (IsMatched o asked.now.union.items frozen.now.facts frozen.now.row)) }
+        → OnTrue matched (IsMatched o union.now frozen.now.facts frozen.now.row)) }
     ensures unmatched { IfOk result
         (λ matched. (o : Declared)
-        → IsPreparedFor asked.now.clashes o
+        → IsPreparedFor clashes.now o
         → IsOverOntology o frozen.now.facts
-        → OnFalse matched
-        (IsUnmatched o asked.now.union.items frozen.now.facts frozen.now.row)) }
+        → OnFalse matched (IsUnmatched o union.now frozen.now.facts frozen.now.row)) }
 {
     let index = index(alloc, &frozen.facts)?;
-    if first_clash(alloc, &asked.clashes, &index)?.is_some() {
+    if first_clash(alloc, clashes, &index)?.is_some() {
         return Ok(true);
     }
-    has_row_in_union(alloc, &index, asked.union.as_slice(), frozen.row.places())
+    has_row_in_union(alloc, &index, union, frozen.row.places())
 }
 
-/// The answer that the frozen query gives.
-fn decided(
+/// Whether the first query is contained in another under the ontology, by that one's rewriting and
+/// the prepared clashes, each of which is made once for many first queries. The members of the
+/// rewriting are within the limits, and their heads are as long as the first query's. The answer
+/// is `contain`'s for each second query that has this rewriting.
+pub fn contain_by(
     alloc: Global,
     ontology: &Ontology,
-    query: &Cq,
-    asked: &Asked,
+    first: &Cq,
+    union: &[Cq],
+    clashes: &Clashes,
 ) -> Result<Containment, Memory>
-    requires query { IsQueryOf ontology.now query.now }
-    requires clashes { IsPreparedFor asked.now.clashes ontology.now }
-    requires queries { All IsQuery asked.now.union.items }
-    requires wide { All (λ q. length q.head ≡ length query.now.head) asked.now.union.items }
-    ensures decided { IfOk result (IsDecided ontology.now query.now asked.now.union.items) }
-    ensures sound { IfOk result (λ _. IsOntology ontology.now) }
+    requires first { IsQueryOf ontology.now first.now }
+    requires clashes { IsPreparedFor clashes.now ontology.now }
+    requires queries { All IsQuery union.now }
+    requires wide { All (λ q. length q.head ≡ length first.now.head) union.now }
+    ensures exact { IfOk result (IsExactBy ontology.now first.now union.now) }
 {
-    let frozen = freeze(alloc, ontology.count(Kind::Individual), query)?;
-    if is_matched(alloc, &frozen, asked)? {
+    let frozen = freeze(alloc, ontology.count(Kind::Individual), first)?;
+    if is_matched(alloc, &frozen, union, clashes)? {
         return Ok(Containment::Yes);
     }
     let Frozen { facts, row } = frozen;
@@ -104,7 +109,13 @@ pub fn contain(
         Ok(asked) => asked,
         Err(fault) => return Err(fault),
     };
-    match decided(alloc, ontology, first, &asked) {
+    match contain_by(
+        alloc,
+        ontology,
+        first,
+        asked.union.as_slice(),
+        &asked.clashes,
+    ) {
         Ok(containment) => Ok(containment),
         Err(_) => Err(RewriteFault::Memory),
     }

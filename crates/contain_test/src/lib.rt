@@ -22,6 +22,6 @@ mod frozen;
 #[cfg(test)]
 mod tests;
 
-pub use deciding::{Containment, contain};
+pub use deciding::{Containment, contain, contain_by};
 pub use declared::is_query_of;
 pub use perfect_ref::RewriteFault as ContainFault;

@@ -1,28 +1,36 @@
--- Answers to the goals of `contain`: what the frozen query tells of containment.
-use Rattle.contain_test.proofs.Showing.{union_queries, union_wide, decided_exact, decided_shown}
+-- Answers to the goals of `contain`: what the second query's rewriting tells of containment.
+use Rattle.std.proofs.Common.{sym, subst}
+use Rattle.std.specs.Prelude.{◌≡◌, length}
+use Rattle.std.specs.List.{All}
+use Rattle.dl_syntax.specs.declared.queries.Cq.{Cq}
+use Rattle.dl_syntax.specs.Queries.{IsQuery}
+use Rattle.perfect_ref.specs.Plain.{encoded, Lists, PlainReachable}
+use Rattle.contain_test.proofs.Showing.{union_queries, union_wide}
 use Rattle.contain_test.proofs.deciding.contain.Goals as goal
 
-pub decided-requires-clause-queries : goal.decided-requires-clause-queries
-decided-requires-clause-queries c =
-    union_queries c.args.ontology.now c.args.second.now c.in-Ok.asked.union.items
+pub contain_by-requires-clause-queries : goal.contain_by-requires-clause-queries
+contain_by-requires-clause-queries c =
+    subst (All IsQuery) (sym c.as_slice.ensures.value)
+    (union_queries c.args.ontology.now c.args.second.now c.in-Ok.asked.union.items
     c.in-Ok.ensures.union
-    c.requires.second.query
+    c.requires.second.query)
 
-pub decided-requires-clause-wide : goal.decided-requires-clause-wide
-decided-requires-clause-wide c =
-    union_wide c.args.ontology.now c.args.second.now c.in-Ok.asked.union.items c.in-Ok.ensures.union
-    c.requires.second.query _ c.requires.wide
+pub contain_by-requires-clause-wide : goal.contain_by-requires-clause-wide
+contain_by-requires-clause-wide c =
+    subst (All (λ (q : Cq). length q.head ≡ length c.args.first.now.head))
+    (sym c.as_slice.ensures.value)
+    (union_wide c.args.ontology.now c.args.second.now c.in-Ok.asked.union.items
+    c.in-Ok.ensures.union
+    c.requires.second.query _ c.requires.wide)
 
-pub returns-in-Ok-decided-clause-yes : goal.returns-in-Ok-decided-clause-yes
-returns-in-Ok-decided-clause-yes c =
-    decided_exact c.args.ontology.now c.args.first.now c.args.second.now c.in-Ok.asked.union.items
-    c.requires.first
-    c.requires.second c.in-Ok-decided.ensures.sound.inclusions_declared c.in-Ok.ensures.union
-    c.in-Ok-decided.containment c.in-Ok-decided.ensures.decided
+pub returns-in-Ok-contain_by-clause-yes : goal.returns-in-Ok-contain_by-clause-yes
+returns-in-Ok-contain_by-clause-yes c =
+    (c.in-Ok-contain_by.ensures.exact c.args.second.now c.requires.second
+    (subst (Lists (PlainReachable (encoded c.args.ontology.now) c.args.second.now))
+    (sym c.as_slice.ensures.value) c.in-Ok.ensures.union)).exact
 
-pub returns-in-Ok-decided-clause-no : goal.returns-in-Ok-decided-clause-no
-returns-in-Ok-decided-clause-no c =
-    decided_shown c.args.ontology.now c.args.first.now c.args.second.now c.in-Ok.asked.union.items
-    c.requires.first
-    c.requires.second c.in-Ok-decided.ensures.sound.inclusions_declared c.in-Ok.ensures.union
-    c.in-Ok-decided.containment c.in-Ok-decided.ensures.decided
+pub returns-in-Ok-contain_by-clause-no : goal.returns-in-Ok-contain_by-clause-no
+returns-in-Ok-contain_by-clause-no c =
+    (c.in-Ok-contain_by.ensures.exact c.args.second.now c.requires.second
+    (subst (Lists (PlainReachable (encoded c.args.ontology.now) c.args.second.now))
+    (sym c.as_slice.ensures.value) c.in-Ok.ensures.union)).shown
