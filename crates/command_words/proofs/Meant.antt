@@ -5,7 +5,7 @@ use Rattle.std.specs.Str.{bytes_eq}
 use Rattle.std.proofs.lemmas.Bool.Decides.{nat_tests}
 use Rattle.clap.specs.Walk.{Row, Text, first_of, has_row}
 use Rattle.command_words.specs.declared.names.CommandName.{CommandName}
-use Rattle.command_words.specs.declared.names.CommandName.TheVariants.{Watch, Rewrite, Drill}
+use Rattle.command_words.specs.declared.names.CommandName.TheVariants.{Watch, Rewrite, Contain, Drill}
 use Rattle.forms.specs.declared.StreamForm.TheVariants as stream
 use Rattle.forms.specs.declared.LineForm.TheVariants as line
 use Rattle.forms.specs.declared.ReportForm.TheVariants as report
@@ -41,6 +41,10 @@ watch_is_named a b cs first second = rw (file_is_fine a first, file_is_fine b se
 rewrite_is_named : (a b : Text) → is_file a ≡ true → is_file b ≡ true → command_of (codes "rewrite" ∷ a ∷ b ∷ []) ≡ Some Rewrite
 unfolding command_of
 rewrite_is_named a b first second = rw (file_is_fine a first, file_is_fine b second)
+
+contain_is_named : (a b : Text) → is_file a ≡ true → is_file b ≡ true → command_of (codes "contain" ∷ a ∷ b ∷ []) ≡ Some Contain
+unfolding command_of
+contain_is_named a b first second = rw (file_is_fine a first, file_is_fine b second)
 
 drill_is_named : (a b : Text) → is_file a ≡ true → is_file b ≡ true → command_of (codes "drill" ∷ a ∷ b ∷ []) ≡ Some Drill
 unfolding command_of
@@ -133,6 +137,10 @@ rewrite_means : (a b : Text) → is_file a ≡ true → is_file b ≡ true → m
 unfolding meaning_in
 rewrite_means a b first second = rw (ontology_is a b [] first, queries_is a b [] second)
 
+contain_means : (a b : Text) → is_file a ≡ true → is_file b ≡ true → meaning_in Contain (place_rows Contain a b) ≡ Some (canonical_meaning (said.contain a b))
+unfolding meaning_in
+contain_means a b first second = rw (ontology_is a b [] first, queries_is a b [] second)
+
 seed_is : (a b : Text) (n : ℕ) → n ≤ 2147483647 → a ≡ decimal n → number_in 2147483647 (codes "seed") (place_rows Drill a b) ≡ Some n
 unfolding number_in
 seed_is a b n below is = rw is (decimal_says 2147483647 n below (omega arith))
@@ -153,6 +161,8 @@ canonical_means (said.watch a b cs) good =
     taken_mean Watch (codes "watch") (a ∷ b ∷ option_words cs) _ _ (watch_is_named a b cs good.0 good.1) (options_are_taken a b cs good.0 good.1 good.2) (watch_means a b cs good.0 good.1)
 canonical_means (said.rewrite a b) good =
     taken_mean Rewrite (codes "rewrite") (a ∷ b ∷ []) _ _ (rewrite_is_named a b good.0 good.1) (two_are_taken Rewrite a b good.0 good.1 refl) (rewrite_means a b good.0 good.1)
+canonical_means (said.contain a b) good =
+    taken_mean Contain (codes "contain") (a ∷ b ∷ []) _ _ (contain_is_named a b good.0 good.1) (two_are_taken Contain a b good.0 good.1 refl) (contain_means a b good.0 good.1)
 canonical_means (said.drill seed count) good =
     let first = decimal_is_file seed (omega (arith, good.0)) in
     let second = decimal_is_file count (omega (arith, good.1)) in

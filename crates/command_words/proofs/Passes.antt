@@ -7,7 +7,7 @@ use Rattle.clap.specs.Walk.{Held, Row, Text, Walk, has_row, nothing_held, walk_f
 use Rattle.clap.specs.Faults.{check_fault, defaults_fault, settle_fault, turn_fault, walk_fault}
 use Rattle.clap.proofs.OnLiterals.{clap_on_literals}
 use Rattle.command_words.specs.declared.names.CommandName.{CommandName}
-use Rattle.command_words.specs.declared.names.CommandName.TheVariants.{Watch, Rewrite, Drill}
+use Rattle.command_words.specs.declared.names.CommandName.TheVariants.{Watch, Rewrite, Contain, Drill}
 use Rattle.command_words.specs.Meanings.{is_file}
 use Rattle.command_words.specs.Canonical.{AreOnce, Choice, form, name_of, option_word, option_words, report_as, report_word, sizes, stream_word}
 use Rattle.command_words.proofs.Walking.{Valued, by_id, by_long, file_is_plain, first_step, held_after, held_places, held_value, held_with, name_step, of_form, of_report, option_reads, report_word_is_file, rules, second_step, shape, sizes_built, sizes_by_long, sizes_step, stands, stands_first, stream_word_is_file, value_step, valued_name, waits}
@@ -79,18 +79,21 @@ first_passes : (c : CommandName) (a : Text) → is_file a ≡ true → turn_faul
 unfolding rules clap_on_literals
 first_passes Watch a file = let plain = file_is_plain a file in rw (plain.2, plain.0, plain.1)
 first_passes Rewrite a file = let plain = file_is_plain a file in rw (plain.2, plain.0, plain.1)
+first_passes Contain a file = let plain = file_is_plain a file in rw (plain.2, plain.0, plain.1)
 first_passes Drill a file = let plain = file_is_plain a file in rw (plain.2, plain.0, plain.1)
 
 second_passes : (c : CommandName) (a b : Text) → is_file b ≡ true → turn_fault (shape c) [] (stands_first c a) b ≡ []
 unfolding rules clap_on_literals
 second_passes Watch a b file = let plain = file_is_plain b file in rw (plain.2, plain.0, plain.1)
 second_passes Rewrite a b file = let plain = file_is_plain b file in rw (plain.2, plain.0, plain.1)
+second_passes Contain a b file = let plain = file_is_plain b file in rw (plain.2, plain.0, plain.1)
 second_passes Drill a b file = let plain = file_is_plain b file in rw (plain.2, plain.0, plain.1)
 
 pub places_settle : (c : CommandName) (a b : Text) → settle_fault (rules c) false (held_places c a b) ≡ []
 unfolding rules clap_on_literals
 places_settle Watch a b = refl
 places_settle Rewrite a b = refl
+places_settle Contain a b = refl
 places_settle Drill a b = refl
 
 pub words_pass : (c : CommandName) (a b : Text) (rest : List Text) → is_file a ≡ true → is_file b ≡ true
@@ -114,18 +117,21 @@ pub defaults_pass : (c : CommandName) (rows : List Row) → defaults_fault rows 
 unfolding rules clap_on_literals
 defaults_pass Watch rows = simp (or_true, same_either)
 defaults_pass Rewrite rows = simp (or_true, same_either)
+defaults_pass Contain rows = simp (or_true, same_either)
 defaults_pass Drill rows = simp (or_true, same_either)
 
 -- the rows with the flag's default, which is the only one
 abbrev pub with_flag : CommandName → List Row → List Row
 with_flag Watch rows = with_default rows sizes_built
 with_flag Rewrite rows = rows
+with_flag Contain rows = rows
 with_flag Drill rows = rows
 
 pub finished_is : (c : CommandName) (rows : List Row) → fold with_default rows (rules c) ≡ with_flag c rows
 unfolding rules clap_on_literals
 finished_is Watch rows = simp same_either
 finished_is Rewrite rows = simp same_either
+finished_is Contain rows = simp same_either
 finished_is Drill rows = simp same_either
 
 -- both words are there
@@ -133,4 +139,5 @@ pub check_passes : (c : CommandName) (a b : Text) (tail : List Row) → check_fa
 unfolding rules clap_on_literals
 check_passes Watch a b tail = refl
 check_passes Rewrite a b tail = refl
+check_passes Contain a b tail = refl
 check_passes Drill a b tail = refl

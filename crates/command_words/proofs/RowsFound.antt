@@ -7,7 +7,7 @@ use Rattle.clap.specs.Walk.{Held, Row, Text, at_row, first_of, has_row, more_val
 use Rattle.clap.specs.declared.builder.value_parser.Reading.{Reading}
 use Rattle.clap.specs.declared.parser.matches.ValueSource.TheVariants.{CommandLine}
 use Rattle.command_words.specs.declared.names.CommandName.{CommandName}
-use Rattle.command_words.specs.declared.names.CommandName.TheVariants.{Watch, Rewrite, Drill}
+use Rattle.command_words.specs.declared.names.CommandName.TheVariants.{Watch, Rewrite, Contain, Drill}
 use Rattle.command_words.specs.Canonical.{AreOnce, Choice, form, has_name, name_of, report_as, report_word, sizes, stream_word}
 use Rattle.command_words.proofs.Walking.{Valued, by_id, first_id, held_after, held_places, held_value, held_with, of_form, of_report, place_built, rules, second_id, sizes_built, value_built, valued_name}
 
@@ -92,6 +92,7 @@ pub rows_of_places : (c : CommandName) (a b : Text) → rows_at c (held_places c
 unfolding rules
 rows_of_places Watch a b = refl
 rows_of_places Rewrite a b = refl
+rows_of_places Contain a b = refl
 rows_of_places Drill a b = refl
 
 is_fresh : (c : Choice) (a b : Text) → has_row (name_of c) (place_rows Watch a b) ≡ false

@@ -6,7 +6,7 @@ use Rattle.clap.specs.Walk.{Held, Rule, Text, Walk, arg_by_id, arg_by_long, idle
 use Rattle.clap.specs.Simple.{Shape, built, filled, names_of, new_shape, with_index}
 use Rattle.clap.proofs.OnLiterals.{clap_on_literals}
 use Rattle.command_words.specs.declared.names.CommandName.{CommandName}
-use Rattle.command_words.specs.declared.names.CommandName.TheVariants.{Watch, Rewrite, Drill}
+use Rattle.command_words.specs.declared.names.CommandName.TheVariants.{Watch, Rewrite, Contain, Drill}
 use Rattle.forms.specs.declared.StreamForm.{StreamForm}
 use Rattle.forms.specs.declared.StreamForm.TheVariants as stream
 use Rattle.forms.specs.declared.ReportForm.{ReportForm}
@@ -30,21 +30,25 @@ sizes_built = with_index 3 (filled (flag_rule (codes "sizes")))
 abbrev pub first_id : CommandName → Text
 first_id Watch = codes "ontology"
 first_id Rewrite = codes "ontology"
+first_id Contain = codes "ontology"
 first_id Drill = codes "seed"
 
 abbrev pub second_id : CommandName → Text
 second_id Watch = codes "queries"
 second_id Rewrite = codes "queries"
+second_id Contain = codes "queries"
 second_id Drill = codes "count"
 
 abbrev pub command_name : CommandName → Text
 command_name Watch = codes "watch"
 command_name Rewrite = codes "rewrite"
+command_name Contain = codes "contain"
 command_name Drill = codes "drill"
 
 abbrev option_rules : CommandName → List Rule
 option_rules Watch = value_built (codes "form") ∷ value_built (codes "report") ∷ sizes_built ∷ []
 option_rules Rewrite = []
+option_rules Contain = []
 option_rules Drill = []
 
 unfoldable pub rules : CommandName → List Rule
@@ -57,12 +61,14 @@ pub shape_is : (c : CommandName) → (built (app_of_command c)).top ≡ shape c
 unfolding app_of_command rules clap_on_literals
 shape_is Watch = refl
 shape_is Rewrite = refl
+shape_is Contain = refl
 shape_is Drill = refl
 
 pub no_names : (c : CommandName) → names_of (built (app_of_command c)) ≡ []
 unfolding app_of_command clap_on_literals
 no_names Watch = refl
 no_names Rewrite = refl
+no_names Contain = refl
 no_names Drill = refl
 
 -- ---- words that may name a file
@@ -181,12 +187,14 @@ pub first_step : (c : CommandName) (a : Text) → is_file a ≡ true → walked 
 unfolding walked rules clap_on_literals
 first_step Watch a file = let plain = file_is_plain a file in rw (plain.2, plain.0, plain.1)
 first_step Rewrite a file = let plain = file_is_plain a file in rw (plain.2, plain.0, plain.1)
+first_step Contain a file = let plain = file_is_plain a file in rw (plain.2, plain.0, plain.1)
 first_step Drill a file = let plain = file_is_plain a file in rw (plain.2, plain.0, plain.1)
 
 pub second_step : (c : CommandName) (a b : Text) → is_file b ≡ true → walked (rules c) [] (stands_first c a) b ≡ stands (held_places c a b)
 unfolding walked rules clap_on_literals
 second_step Watch a b file = let plain = file_is_plain b file in rw (plain.2, plain.0, plain.1)
 second_step Rewrite a b file = let plain = file_is_plain b file in rw (plain.2, plain.0, plain.1)
+second_step Contain a b file = let plain = file_is_plain b file in rw (plain.2, plain.0, plain.1)
 second_step Drill a b file = let plain = file_is_plain b file in rw (plain.2, plain.0, plain.1)
 
 pub walk_words : (c : CommandName) (a b : Text) (rest : List Text) → is_file a ≡ true → is_file b ≡ true

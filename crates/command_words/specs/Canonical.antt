@@ -11,7 +11,7 @@ use Rattle.forms.specs.declared.ReportForm.TheVariants as report
 use Rattle.command_words.specs.declared.request.Request.{Request}
 use Rattle.command_words.specs.declared.request.WordsFault.{WordsFault}
 use Rattle.command_words.specs.declared.request.WordsFault.TheVariants.{Memory}
-use Rattle.command_words.specs.Meanings.{Meaning, is_file, meaning_of, watch as watches, rewrite as rewrites, drill as drills}
+use Rattle.command_words.specs.Meanings.{Meaning, is_file, meaning_of, watch as watches, rewrite as rewrites, contain as contains, drill as drills}
 
 -- an option of a watch, with its value
 pub data Choice : Type 0 where
@@ -23,6 +23,7 @@ pub data Choice : Type 0 where
 pub data Canonical : Type 0 where
   watch : Text → Text → List Choice → Canonical
   rewrite : Text → Text → Canonical
+  contain : Text → Text → Canonical
   drill : ℕ → ℕ → Canonical
 
 -- ---- the words
@@ -59,6 +60,7 @@ option_words (sizes ∷ rest) = option_word (codes "sizes") ∷ option_words res
 abbrev pub canonical_words : Canonical → List Text
 canonical_words (watch ontology queries choices) = codes "watch" ∷ ontology ∷ queries ∷ option_words choices
 canonical_words (rewrite ontology queries) = codes "rewrite" ∷ ontology ∷ queries ∷ []
+canonical_words (contain ontology queries) = codes "contain" ∷ ontology ∷ queries ∷ []
 canonical_words (drill seed count) = codes "drill" ∷ decimal seed ∷ decimal count ∷ []
 
 -- ---- which are canonical
@@ -76,6 +78,7 @@ AreOnce (choice ∷ rest) = (has_name (name_of choice) rest ≡ false) × AreOnc
 abbrev pub IsCanonical : Canonical → Type 0
 IsCanonical (watch ontology queries choices) = (is_file ontology ≡ true) × (is_file queries ≡ true) × AreOnce choices
 IsCanonical (rewrite ontology queries) = (is_file ontology ≡ true) × (is_file queries ≡ true)
+IsCanonical (contain ontology queries) = (is_file ontology ≡ true) × (is_file queries ≡ true)
 IsCanonical (drill seed count) = (seed ≤ 2147483647) × (count ≤ 100000)
 
 -- ---- what they say
@@ -104,6 +107,7 @@ canonical_meaning (watch ontology queries choices) = watches (record {
   sizes = has_name (codes "sizes") choices;
 })
 canonical_meaning (rewrite ontology queries) = rewrites ontology queries
+canonical_meaning (contain ontology queries) = contains ontology queries
 canonical_meaning (drill seed count) = drills seed count
 
 -- the answer is this meaning, or want of memory

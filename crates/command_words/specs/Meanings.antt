@@ -28,16 +28,19 @@ pub record Watching : Type 0 where
   pub report : ReportForm
   pub sizes : Bool
 
--- a watch, a rewriting of the queries by the ontology of these files, or a drill of this seed and so many snapshots
+-- a watch, a rewriting of the queries by the ontology of these files, a test of the containment of these queries under
+-- this ontology, or a drill of this seed and so many snapshots
 pub data Meaning : Type 0 where
   watch : Watching → Meaning
   rewrite : Text → Text → Meaning
+  contain : Text → Text → Meaning
   drill : ℕ → ℕ → Meaning
 
 -- the seed of a drill is at most 2,147,483,647, and it has at most 100,000 snapshots
 abbrev pub IsWithinLimits : Meaning → Type 0
 IsWithinLimits (watch w) = Unit {0}
 IsWithinLimits (rewrite ontology queries) = Unit {0}
+IsWithinLimits (contain ontology queries) = Unit {0}
 IsWithinLimits (drill seed count) = (seed ≤ 2147483647) × (count ≤ 100000)
 
 -- ---- what each value means
@@ -102,6 +105,11 @@ abbrev pub rewrite_in : List Row → Option Meaning
 rewrite_in rows = option_and_then (λ ontology. option_map (rewrite ontology)
     (file_in (codes "queries") rows)) (file_in (codes "ontology") rows)
 
+-- what the arguments of a test of containment mean
+abbrev pub contain_in : List Row → Option Meaning
+contain_in rows = option_and_then (λ ontology. option_map (contain ontology)
+    (file_in (codes "queries") rows)) (file_in (codes "ontology") rows)
+
 -- what the arguments of a drill mean
 abbrev pub drill_in : List Row → Option Meaning
 drill_in rows = option_and_then (λ seed. option_map (drill seed)
@@ -111,6 +119,7 @@ drill_in rows = option_and_then (λ seed. option_map (drill seed)
 unfoldable pub meaning_in : CommandName → List Row → Option Meaning
 meaning_in command.Watch rows = option_map watch (watch_in rows)
 meaning_in command.Rewrite rows = rewrite_in rows
+meaning_in command.Contain rows = contain_in rows
 meaning_in command.Drill rows = drill_in rows
 
 -- what the words mean by the arguments of a command
@@ -138,6 +147,7 @@ watching_of w = record {
 abbrev pub meaning_of : Request → Meaning
 meaning_of (request.Watch w) = watch (watching_of w)
 meaning_of (request.Rewrite ontology queries) = rewrite ontology.now queries.now
+meaning_of (request.Contain ontology queries) = contain ontology.now queries.now
 meaning_of (request.Drill seed count) = drill seed count
 
 -- a refusal comes only where the words mean nothing, or for want of memory

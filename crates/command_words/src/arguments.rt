@@ -76,6 +76,7 @@ fn command<'a>(alloc: Global, name: CommandName) -> Result<Command<'a>, AllocErr
     match name {
         CommandName::Watch => watch_command(alloc),
         CommandName::Rewrite => two_places(alloc, "rewrite", "ontology", "queries"),
+        CommandName::Contain => two_places(alloc, "contain", "ontology", "queries"),
         CommandName::Drill => two_places(alloc, "drill", "seed", "count"),
     }
 }

@@ -8,6 +8,7 @@ ghost use Rattle.command_words.specs.Commands.{command_named, command_of, first_
 pub enum CommandName {
     Watch,
     Rewrite,
+    Contain,
     Drill,
 }
 
@@ -18,6 +19,7 @@ fn command_named(word: &str) -> Option<CommandName>
     match word {
         "watch" => Some(CommandName::Watch),
         "rewrite" => Some(CommandName::Rewrite),
+        "contain" => Some(CommandName::Contain),
         "drill" => Some(CommandName::Drill),
         _ => None,
     }

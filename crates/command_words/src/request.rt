@@ -28,6 +28,9 @@ pub enum Request<'a> {
     Watch(Watch<'a>),
     /// Rewrites the queries of one file by the ontology of another.
     Rewrite { ontology: &'a str, queries: &'a str },
+    /// Tests which queries of one file are contained in which others, under the ontology of
+    /// another.
+    Contain { ontology: &'a str, queries: &'a str },
     /// Watches a made stream: the seed is at most 2,147,483,647, the count of snapshots at most
     /// 100,000.
     Drill { seed: u32, count: u32 },

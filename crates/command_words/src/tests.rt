@@ -52,8 +52,13 @@ fn accepts_rewritings_and_drills(rt: HostRuntime) -> Result<(), Fail> {
         ontology: "O",
         queries: "Q",
     };
+    let containment = Request::Contain {
+        ontology: "O",
+        queries: "Q",
+    };
     for (line, request) in [
         ("rewrite O Q", rewriting),
+        ("contain O Q", containment),
         ("drill 0 0", Request::Drill { seed: 0, count: 0 }),
         ("drill 7 3", Request::Drill { seed: 7, count: 3 }),
         (
@@ -106,6 +111,8 @@ fn refuses_other_words(rt: HostRuntime) -> Result<(), Fail> {
         "rewrite O Q R",
         "rewrite O Q --sizes",
         "rewrite O Q --form json",
+        "contain O",
+        "contain O Q --sizes",
         "drill 1",
         "drill 1 1 1",
         "drill 1 1 --sizes",

@@ -1,7 +1,7 @@
 // What the values of the arguments mean.
 ghost use Rattle.std.specs.Prelude.{◌≡◌, ◌≤◌, MatchOption, codes, option_map, unwrap_or};
 ghost use Rattle.clap.specs.Words.{first_of, found_of, rows_of};
-ghost use Rattle.command_words.specs.Meanings.{IsWithinLimits, drill_in, file_in, file_of, is_file, meaning_in, meaning_of, number_in, report_form_in, report_form_of, rewrite_in, sizes_in, stream_form_in, stream_form_of, watch_in, watching_of};
+ghost use Rattle.command_words.specs.Meanings.{IsWithinLimits, contain_in, drill_in, file_in, file_of, is_file, meaning_in, meaning_of, number_in, report_form_in, report_form_of, rewrite_in, sizes_in, stream_form_in, stream_form_of, watch_in, watching_of};
 
 use crate::names::CommandName;
 use crate::numbers::read_number;
@@ -141,6 +141,17 @@ fn rewriting<'a>(matches: &ArgMatches<'a>) -> Option<Request<'a>>
     Some(Request::Rewrite { ontology, queries })
 }
 
+/// What the arguments of a test of containment mean.
+fn containment<'a>(matches: &ArgMatches<'a>) -> Option<Request<'a>>
+    ensures meaning { option_map meaning_of result ≡ contain_in (rows_of (found_of matches.now)) }
+    ensures limits { MatchOption result (Unit {0})
+        (λ request. IsWithinLimits (meaning_of request)) }
+{
+    let ontology = file(matches, "ontology")?;
+    let queries = file(matches, "queries")?;
+    Some(Request::Contain { ontology, queries })
+}
+
 /// What the arguments of a drill mean.
 fn drill<'a>(matches: &ArgMatches<'a>) -> Option<Request<'a>>
     ensures meaning { option_map meaning_of result ≡ drill_in (rows_of (found_of matches.now)) }
@@ -166,6 +177,7 @@ pub fn request<'a>(name: CommandName, matches: &ArgMatches<'a>) -> Option<Reques
             None => None,
         },
         CommandName::Rewrite => rewriting(matches),
+        CommandName::Contain => containment(matches),
         CommandName::Drill => drill(matches),
     }
 }
