@@ -19,7 +19,8 @@ use Rattle.dl_syntax.specs.Queries.{IsQuery}
 use Rattle.dl_syntax.proofs.AllByCons.{All-from_contains, Contains-single}
 use Rattle.query_unify.specs.Normal.{normalise}
 use Rattle.perfect_ref.specs.Plain.{encoded, PlainReachable, Lists}
-use Rattle.perfect_ref.specs.Laws.{IsOverOntology, SomeGives}
+use Rattle.dl_syntax.specs.Encode.{IsOverOntology}
+use Rattle.perfect_ref.specs.Laws.{SomeGives}
 use Rattle.perfect_ref.proofs.Answering.{answers_of_list, reachable_is_query}
 use Rattle.ucq_join.specs.Answers.{IsUnionAnswer}
 use Rattle.consistency.specs.Least.{IsConsistentUnder, IsLeastClash, IsFirstClash}

@@ -7,7 +7,7 @@ use Rattle.dl_syntax.specs.Queries.{IsQuery}
 use Rattle.dl_syntax.specs.Ontology.{Declared}
 use Rattle.dl_syntax.specs.Match.{Certain}
 use Rattle.perfect_ref.specs.Plain.{encoded, Lists, PlainReachable}
-use Rattle.perfect_ref.specs.Laws.{IsOverOntology, IsQueryOver}
+use Rattle.dl_syntax.specs.Encode.{IsOverOntology, IsQueryOver}
 use Rattle.consistency.specs.Least.{IsConsistentUnder}
 use Rattle.models.specs.Containment.{IsBelow}
 use Rattle.contain_test.specs.declared.deciding.Containment.{Containment}

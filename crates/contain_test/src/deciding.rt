@@ -7,7 +7,7 @@ ghost use Rattle.dl_syntax.specs.Ontology.{Declared};
 ghost use Rattle.contain_test.specs.Contained.{IsQueryOf, IsContainedUnder, IsShown, IsExactBy};
 ghost use Rattle.contain_test.specs.Rewritings.{ReachMoreTogether};
 ghost use Rattle.contain_test.specs.Deciding.{IsMatched, IsUnmatched};
-ghost use Rattle.perfect_ref.specs.Laws.{IsOverOntology};
+ghost use Rattle.dl_syntax.specs.Encode.{IsOverOntology};
 ghost use Rattle.consistency.specs.Prepared.{IsPreparedFor};
 
 use crate::asking::asked_for;

@@ -18,7 +18,7 @@ split {X = X} (y ∷ xs) x there =
     ]
 
 -- different elements that another list contains are no more than that has
-fewer : {X : Type 0} (xs ys : List X) → AllPairs (λ p q. p ≢ q) xs → ((q : X) → Contains xs q → Contains ys q) → length xs ≤ length ys
+pub fewer : {X : Type 0} (xs ys : List X) → AllPairs (λ p q. p ≢ q) xs → ((q : X) → Contains xs q → Contains ys q) → length xs ≤ length ys
 fewer {X = X} [] ys distinct inside = omega arith
 fewer {X = X} (x ∷ xs) ys distinct inside =
     let parts : (front : List X) × (back : List X) × (ys ≡ front ++ x ∷ back) = split ys x (inside x (Contains-first x xs)) in
