@@ -1,5 +1,5 @@
 -- The rows in the index are those in the model, and each certain tuple is among them.
-use Rattle.std.proofs.Common.{◌≡◌, ℕ, List, length}
+use Rattle.std.proofs.Common.{ℕ, List}
 use Rattle.std.specs.Prelude.{◌↔◌}
 use Rattle.std.specs.Prelude.{Vec}
 use Rattle.std.specs.Global.{Global}
@@ -15,13 +15,7 @@ use Rattle.dl_syntax.specs.Ontology.{Declared}
 use Rattle.tcq_syntax.specs.Tcq.{Tcq}
 use Rattle.ucq_join.specs.Answers.{IsAnswer}
 use Rattle.model_audit.specs.FiniteModels.{IsFiniteModel}
-use Rattle.model_audit.specs.Rows.{
-  IsDeclared,
-  AreRowsOf,
-  AreRowsOfQuery,
-  AreRowsOfQueries,
-  leaf_queries,
-}
+use Rattle.model_audit.specs.Rows.{AreRowsOf, AreRowsOfQuery, AreRowsOfQueries, leaf_queries}
 use Rattle.model_audit.specs.Auditing.{AreAmong}
 use Rattle.model_audit.proofs.Leaves.{zip_weaker}
 use Rattle.model_audit.proofs.Modelling.{certain_answers_match}

@@ -1,18 +1,17 @@
 -- What is found does not depend on the order of the facts held, and says whether they are a finite
 -- model.
 use Rattle.std.proofs.Common.{◌≡◌, ℕ, List, take, get_or, refl, subst}
-use Rattle.std.specs.Prelude.{◌↔◌, Some, slice_get}
+use Rattle.std.specs.Prelude.{◌↔◌}
 use Rattle.std.specs.List.{All, Contains}
 use Rattle.std.proofs.lemmas.List.Elements.{All-contains, All-weaker}
 use Rattle.std.proofs.lemmas.Option.{slice_get_within, get_or_from_slice_get}
-use Rattle.dl_syntax.specs.declared.facts.Element.{Element}
 use Rattle.dl_syntax.specs.declared.facts.Fact.{Fact}
 use Rattle.dl_syntax.specs.declared.facts.Fact.TheVariants as fact
 use Rattle.dl_syntax.specs.declared.ontology.Inclusion.{Inclusion}
 use Rattle.dl_syntax.specs.declared.ontology.Inclusion.TheVariants as inclusion
 use Rattle.dl_syntax.specs.declared.ontology.Clash.{Clash}
 use Rattle.dl_syntax.specs.declared.ontology.Clash.TheVariants as clash
-use Rattle.dl_syntax.specs.Facts.{In, role_fact}
+use Rattle.dl_syntax.specs.Facts.{role_fact}
 use Rattle.dl_syntax.specs.Ontology.{Declared}
 use Rattle.dl_syntax.proofs.AllByCons.{All-from_contains}
 use Rattle.model_audit.specs.FiniteModels.{
@@ -24,7 +23,7 @@ use Rattle.model_audit.specs.FiniteModels.{
   IsFiniteModel,
 }
 use Rattle.model_audit.specs.First.{LacksFirst}
-use Rattle.model_audit.specs.Examining.{IsBroken, IsMetFirst, IsFoundIn, IsFound}
+use Rattle.model_audit.specs.Examining.{IsFoundIn, IsFound}
 use Rattle.model_audit.specs.declared.examining.Finding.{Finding}
 use Rattle.model_audit.specs.declared.examining.Finding.TheVariants.{
   Missing,

@@ -1,5 +1,5 @@
 -- The first element that lacks a property.
-use Rattle.std.proofs.Common.{◌≡◌, ℕ, ◌<◌, ◌≤◌, List, take, length, get_or, subst}
+use Rattle.std.proofs.Common.{ℕ, ◌<◌, ◌≤◌, List, take, length, get_or, subst}
 use Rattle.std.specs.List.{All}
 use Rattle.std.proofs.lemmas.List.{take_all}
 use Rattle.std.proofs.lemmas.Option.{slice_get-get_or}

@@ -20,20 +20,18 @@ use Rattle.std.proofs.Common.{
   eq-eqb,
 }
 use Rattle.std.specs.Prelude.{◌↔◌, IsTrue, not, Option, None, Some}
-use Rattle.std.specs.List.{All, Any, Contains, filter}
+use Rattle.std.specs.List.{Any, Contains, filter}
 use Rattle.std.proofs.lemmas.Bool.{eqb-true}
-use Rattle.std.proofs.lemmas.List.Elements.{All-contains}
 use Rattle.dl_syntax.specs.declared.names.ConceptId.{ConceptId}
 use Rattle.dl_syntax.specs.declared.names.RoleId.{RoleId}
 use Rattle.dl_syntax.specs.declared.facts.Element.{Element}
 use Rattle.dl_syntax.specs.declared.facts.Fact.{Fact}
 use Rattle.dl_syntax.specs.declared.facts.Fact.TheVariants as fact
 use Rattle.dl_syntax.specs.declared.ontology.Role.{Role}
-use Rattle.dl_syntax.specs.declared.ontology.Basic.{Basic}
 use Rattle.dl_syntax.specs.declared.ontology.Basic.TheVariants as basic
 use Rattle.dl_syntax.specs.Facts.{In, Pair, pair_in, role_fact}
 use Rattle.dl_syntax.proofs.FactLaws.{pair_in-Pair}
-use Rattle.dl_syntax.proofs.AllByCons.{All-from_contains, Contains-none, Contains-first}
+use Rattle.dl_syntax.proofs.AllByCons.{Contains-none, Contains-first}
 use Rattle.fact_index.specs.Order.{is_of_concept, is_of_role, first_of, last_of, element_eq}
 use Rattle.fact_index.proofs.Dedup.{Contains-filter}
 use Rattle.fact_index.proofs.Orders.{element_eq-same, element_eq-refl}

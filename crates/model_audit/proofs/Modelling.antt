@@ -1,7 +1,6 @@
 -- Finite models are models.
-use Rattle.std.proofs.Common.{◌≡◌, ℕ, List, [], ◌∷◌, refl, sym, ◌∙◌, ap, subst}
-use Rattle.std.specs.Prelude.{◌↔◌}
-use Rattle.std.specs.List.{All, Contains}
+use Rattle.std.proofs.Common.{List, refl, ◌∙◌, subst}
+use Rattle.std.specs.List.{Contains}
 use Rattle.std.proofs.lemmas.List.Elements.{All-contains, All-weaker}
 use Rattle.dl_syntax.specs.declared.facts.Element.{Element}
 use Rattle.dl_syntax.specs.declared.facts.Element.TheVariants.{Ind as ind_element, Null}
@@ -11,36 +10,16 @@ use Rattle.dl_syntax.specs.declared.ontology.Inclusion.{Inclusion}
 use Rattle.dl_syntax.specs.declared.ontology.Inclusion.TheVariants as inclusion
 use Rattle.dl_syntax.specs.declared.ontology.Clash.{Clash}
 use Rattle.dl_syntax.specs.declared.ontology.Clash.TheVariants as clash
-use Rattle.dl_syntax.specs.declared.queries.Atom.{Atom}
-use Rattle.dl_syntax.specs.Facts.{HasNoNull, In, Pair, role_fact}
+use Rattle.dl_syntax.specs.Facts.{HasNoNull, In, role_fact}
 use Rattle.dl_syntax.specs.Match.{atom_at}
 use Rattle.dl_syntax.proofs.AllByCons.{All-from_contains}
-use Rattle.ucq_join.specs.Answers.{IsAnswer}
 use Rattle.models.specs.Models as models
 use Rattle.models.specs.Models.{Interpretation, IsModel, IsIn, Holds, AtomHolds, Answers}
 use Rattle.models.specs.Laws.{listed}
-use Rattle.models.proofs.Having.{
-  Has,
-  pair_had,
-  had-In,
-  In-had,
-  keeps_term,
-  keeps_atom,
-  atom_kept,
-  head_kept,
-  KeepsTerm,
-  KeepsAtom,
-}
+use Rattle.models.proofs.Having.{Has, pair_had, had-In, In-had, keeps_term, keeps_atom, atom_kept, head_kept, KeepsTerm}
 use Rattle.models.proofs.AlongMaps.{listed_has, has_listed, run_avoids}
 use Rattle.models.proofs.IntoModels.{certain_answers_hold_in, models_show_consistency}
-use Rattle.model_audit.specs.FiniteModels.{
-  Keeps,
-  Satisfies,
-  Avoids,
-  IsMember,
-  HasPartner,
-  IsFiniteModel,
-}
+use Rattle.model_audit.specs.FiniteModels.{Keeps, Satisfies, Avoids, IsMember, HasPartner}
 use Rattle.model_audit.specs.Laws.{
   FiniteModelsAreModels,
   FiniteModelsShowConsistency,

@@ -1,10 +1,9 @@
 //! The audit of a finite model: whether a finite list of facts holds a snapshot and all that an
-//! ontology says of it, and
-//! what queries answer in it.
+//! ontology says of it, and what queries answer in it.
 //!
 //! A finite model is an interpretation with finitely many elements, so a snapshot with one is
-//! consistent, and each certain
-//! answer has a match in it. The definitions are told without the chase.
+//! consistent, and each certain answer has a match in it. The definitions are told without the
+//! chase.
 #![tactic(auto)]
 
 mod auditing;

@@ -1,5 +1,5 @@
 -- Answers to the goals of `is_apart`: a fact shows one element or pair of a side.
-use Rattle.std.proofs.Common.{◌≡◌, sym, ◌∙◌, ap, subst}
+use Rattle.std.proofs.Common.{◌≡◌, sym, ◌∙◌, subst}
 use Rattle.std.specs.Prelude.{◌↔◌, IsTrue, not, Some}
 use Rattle.std.specs.List.{Contains}
 use Rattle.dl_syntax.specs.declared.facts.Fact.{Fact}
