@@ -1,6 +1,23 @@
 -- The atoms of a normal form are distinct, and so are the facts that they become when they are
 -- frozen.
-use Rattle.std.proofs.Common.{◌≡◌, ℕ, ◌+◌, Bool, true, false, cond, List, [], ◌∷◌, map, sym, ◌∙◌, ap, ap₂, arith}
+use Rattle.std.proofs.Common.{
+  ◌≡◌,
+  ℕ,
+  ◌+◌,
+  Bool,
+  true,
+  false,
+  cond,
+  List,
+  [],
+  ◌∷◌,
+  map,
+  sym,
+  ◌∙◌,
+  ap,
+  ap₂,
+  arith,
+}
 use Rattle.std.specs.Prelude.{◌≢◌}
 use Rattle.std.specs.List.{All, AllPairs, Contains, filter}
 use Rattle.std.proofs.lemmas.List.Elements.{

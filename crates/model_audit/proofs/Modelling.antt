@@ -16,7 +16,17 @@ use Rattle.dl_syntax.proofs.AllByCons.{All-from_contains}
 use Rattle.models.specs.Models as models
 use Rattle.models.specs.Models.{Interpretation, IsModel, IsIn, Holds, AtomHolds, Answers}
 use Rattle.models.specs.Laws.{listed}
-use Rattle.models.proofs.Having.{Has, pair_had, had-In, In-had, keeps_term, keeps_atom, atom_kept, head_kept, KeepsTerm}
+use Rattle.models.proofs.Having.{
+  Has,
+  pair_had,
+  had-In,
+  In-had,
+  keeps_term,
+  keeps_atom,
+  atom_kept,
+  head_kept,
+  KeepsTerm,
+}
 use Rattle.models.proofs.AlongMaps.{listed_has, has_listed, run_avoids}
 use Rattle.models.proofs.IntoModels.{certain_answers_hold_in, models_show_consistency}
 use Rattle.model_audit.specs.FiniteModels.{Keeps, Satisfies, Avoids, IsMember, HasPartner}
