@@ -1,0 +1,6 @@
+pub mod Steps
+pub mod Numbers
+pub mod Assigned
+pub mod Sides
+pub mod Showing
+pub mod Leaves

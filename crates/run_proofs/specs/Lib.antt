@@ -1,0 +1,5 @@
+pub mod Growing
+pub mod Matching
+pub mod Assigned
+pub mod Shows
+pub mod Laws

@@ -1,0 +1,12 @@
+//! Laws of the definitions, each the contract of a function with nothing to do.
+ghost use Rattle.run_proofs.specs.Laws.{StepsMakeRun, ShownHolds};
+
+/// Steps that name facts by their places lead from a run to a run.
+pub fn steps_make_run()
+    ensures { StepsMakeRun }
+{}
+
+/// What a proof shows holds: the row is a certain answer of the leaf, or some run of the facts meets the clash.
+pub fn shown_holds()
+    ensures { ShownHolds }
+{}
