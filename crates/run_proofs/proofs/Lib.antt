@@ -4,3 +4,5 @@ pub mod Assigned
 pub mod Sides
 pub mod Showing
 pub mod Leaves
+pub mod Words
+pub mod OneReading

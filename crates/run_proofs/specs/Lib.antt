@@ -2,4 +2,5 @@ pub mod Growing
 pub mod Matching
 pub mod Assigned
 pub mod Shows
+pub mod Texts
 pub mod Laws

@@ -1,5 +1,5 @@
 //! Laws of the definitions, each the contract of a function with nothing to do.
-ghost use Rattle.run_proofs.specs.Laws.{StepsMakeRun, ShownHolds};
+ghost use Rattle.run_proofs.specs.Laws.{StepsMakeRun, ShownHolds, OneStep, OnePairOfPlaces};
 
 /// Steps that name facts by their places lead from a run to a run.
 pub fn steps_make_run()
@@ -9,4 +9,10 @@ pub fn steps_make_run()
 /// What a proof shows holds: the row is a certain answer of the leaf, or some run of the facts meets the clash.
 pub fn shown_holds()
     ensures { ShownHolds }
+{}
+
+/// A line tells one step, or one pair of places: what is written is read back as the same.
+pub fn lines_tell_one()
+    ensures step { OneStep }
+    ensures places { OnePairOfPlaces }
 {}

@@ -7,7 +7,11 @@ mod checking;
 pub mod laws;
 mod matching;
 mod proof;
+mod reading;
+#[cfg(test)]
+mod tests;
 mod variables;
 
 pub use checking::verify;
 pub use proof::{Ending, Goal, Proof, ProofStep};
+pub use reading::{read_places, read_step};
