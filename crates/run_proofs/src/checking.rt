@@ -26,8 +26,10 @@ fn names_both(ontology: &Ontology, run: &[Fact], step: &ProofStep) -> bool
 /// Takes the step where what it names exists. Answers whether it makes anything.
 fn take_step(ontology: &Ontology, run: &mut Vec<Fact>, step: &ProofStep) -> Result<bool, Memory>
     requires { length run.old.items + 2 < 2 ^ 32 }
-    ensures run { IfOk result (λ makes. run.new.items ≡ run.old.items ++ made_in ontology.now.inclusions run.old.items step.now) }
-    ensures makes { IfOk result (λ makes. IsTrue makes ↔ (made_in ontology.now.inclusions run.old.items step.now ≢ [])) }
+    ensures run { IfOk result (λ makes. run.new.items
+        ≡ run.old.items ++ made_in ontology.now.inclusions run.old.items step.now) }
+    ensures makes { IfOk result (λ makes. IsTrue makes
+        ↔ (made_in ontology.now.inclusions run.old.items step.now ≢ [])) }
 {
     if names_both(ontology, run.as_slice(), step) {
         extend_run(ontology, run, step.from, step.inclusion)
@@ -43,8 +45,10 @@ pub(crate) fn take_steps(
     steps: &[ProofStep],
 ) -> Result<bool, Memory>
     requires { length run.old.items + 2 * length steps.now < 2 ^ 32 }
-    ensures make { IfOk result (λ make. IsTrue make ↔ AllMake ontology.now.inclusions run.old.items steps.now) }
-    ensures run { IfOk result (λ make. IsTrue make → run.new.items ≡ run_after ontology.now.inclusions run.old.items steps.now) }
+    ensures make { IfOk result (λ make. IsTrue make
+        ↔ AllMake ontology.now.inclusions run.old.items steps.now) }
+    ensures run { IfOk result (λ make. IsTrue make → run.new.items
+        ≡ run_after ontology.now.inclusions run.old.items steps.now) }
 {
     for step in steps {
         if !take_step(ontology, run, step)? {
@@ -98,7 +102,8 @@ fn shows_answer(
     elements: &[Element],
 ) -> Result<bool, Memory>
     requires { IfSome leaf (λ q. All (IsBound q.now.body) q.now.head) }
-    ensures { IfOk result (λ yes. IsTrue yes ↔ EndsAnswer (option_map (λ q. q.now) leaf.entry) run.now row.now elements.now) }
+    ensures { IfOk result (λ yes. IsTrue yes ↔ EndsAnswer (option_map
+        (λ q. q.now) leaf.entry) run.now row.now elements.now) }
 {
     match leaf {
         Some(cq) => is_match(alloc, cq, elements, run, row),
@@ -108,7 +113,8 @@ fn shows_answer(
 
 /// Whether the facts at the two places of the run are both sides of the clash.
 fn shows_clash(clash: Option<&Clash>, run: &[Fact], first: u32, second: u32) -> bool
-    ensures { IsTrue result ↔ EndsClash (option_map (λ m. m.now) clash.entry) run.now first second }
+    ensures { IsTrue result ↔ EndsClash (option_map
+        (λ m. m.now) clash.entry) run.now first second }
 {
     match clash {
         Some(clash) => meets_at(clash, run, first, second),
@@ -125,7 +131,8 @@ fn ends(
     goal: &Goal,
     ending: &Ending,
 ) -> Result<bool, Memory>
-    ensures { IfOk result (λ yes. IsTrue yes ↔ Ends ontology.now queries.now run.now goal.now ending.now) }
+    ensures { IfOk result (λ yes. IsTrue yes
+        ↔ Ends ontology.now queries.now run.now goal.now ending.now) }
 {
     match (goal, ending) {
         (Goal::Answer { query, leaf, row }, Ending::Match(elements)) => {
@@ -140,7 +147,8 @@ fn ends(
     }
 }
 
-/// Whether the proof shows its goal: each step makes something, and by the ending the run that they lead to shows the goal.
+/// Whether the proof shows its goal: each step makes something, and by the ending the run that
+/// they lead to shows the goal.
 /// A goal that names no leaf or clash, and an ending of the other kind, show nothing.
 pub fn verify(
     alloc: Global,

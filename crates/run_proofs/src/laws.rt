@@ -6,7 +6,8 @@ pub fn steps_make_run()
     ensures { StepsMakeRun }
 {}
 
-/// What a proof shows holds: the row is a certain answer of the leaf, or some run of the facts meets the clash.
+/// What a proof shows holds: the row is a certain answer of the leaf, or some run of the facts
+/// meets the clash.
 pub fn shown_holds()
     ensures { ShownHolds }
 {}

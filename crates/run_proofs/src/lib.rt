@@ -1,6 +1,9 @@
-//! Proofs that a row is a certain answer, or that a snapshot contradicts an ontology: the steps of the chase that show it.
+//! Proofs that a row is a certain answer, or that a snapshot contradicts an ontology: the steps of
+//! the chase that show it.
 //!
-//! The chase is that of D. Calvanese, G. De Giacomo, D. Lembo, M. Lenzerini and R. Rosati, "Tractable Reasoning and Efficient Query Answering in Description Logics: The DL-Lite Family", Journal of Automated Reasoning 39, 2007.
+//! The chase is that of D. Calvanese, G. De Giacomo, D. Lembo, M. Lenzerini and R. Rosati,
+//! "Tractable Reasoning and Efficient Query Answering in Description Logics: The DL-Lite Family",
+//! Journal of Automated Reasoning 39, 2007.
 #![tactic(auto)]
 
 mod checking;

@@ -88,7 +88,8 @@ fn holds_all(run: &[Fact], variables: &[u16], elements: &[Element], body: &[Atom
 /// Whether the head becomes the row.
 fn is_row(variables: &[u16], elements: &[Element], head: &[Term], row: &[IndId]) -> bool
     requires { length variables.now ≡ length elements.now }
-    ensures { IsTrue result ↔ (map (term_at (assigned variables.now elements.now)) head.now ≡ map ind_element row.now) }
+    ensures { IsTrue result ↔ (map (term_at (assigned variables.now elements.now)) head.now
+        ≡ map ind_element row.now) }
 {
     if head.len() != row.len() {
         return false;
@@ -102,7 +103,8 @@ fn is_row(variables: &[u16], elements: &[Element], head: &[Term], row: &[IndId])
     true
 }
 
-/// Whether the elements, one for each of the variables, are a match in the run that makes the head the row.
+/// Whether the elements, one for each of the variables, are a match in the run that makes the head
+/// the row.
 fn is_match_of(
     cq: &Cq,
     variables: &[u16],
@@ -123,7 +125,8 @@ fn is_match_of(
     is_row(variables, elements, cq.head.as_slice(), row)
 }
 
-/// Whether the elements, one for each variable in rising order, are a match in the run that makes the head the row.
+/// Whether the elements, one for each variable in rising order, are a match in the run that makes
+/// the head the row.
 pub(crate) fn is_match(
     alloc: Global,
     cq: &Cq,

@@ -32,7 +32,8 @@ fn read_number(word: &[u8]) -> Option<u32>
 
 /// The part before the first space, and the part behind it.
 fn split_word(text: &[u8]) -> Option<(&[u8], &[u8])>
-    ensures { MatchOption result (All (λ b. b ≢ 32) text.now) (λ parts. (text.now ≡ parts.0.now ++ 32 ∷ parts.1.now) × All (λ b. b ≢ 32) parts.0.now) }
+    ensures { MatchOption result (All (λ b. b ≢ 32) text.now) (λ parts. (text.now
+        ≡ parts.0.now ++ 32 ∷ parts.1.now) × All (λ b. b ≢ 32) parts.0.now) }
 {
     for (place, byte) in text.iter().enumerate() {
         if *byte == b' ' {
@@ -68,7 +69,8 @@ fn begins_with(line: &[u8], word: &[u8]) -> bool
 
 /// The rest of a line that begins with the word.
 fn rest_of<'a>(line: &'a [u8], word: &[u8]) -> Option<&'a [u8]>
-    ensures { MatchOption result ((rest : List ℕ) → line.entry.now ≡ word.entry.now ++ rest → ⊥) (λ rest. line.entry.now ≡ word.entry.now ++ rest.now) }
+    ensures { MatchOption result ((rest : List ℕ) → line.entry.now ≡ word.entry.now ++ rest
+        → ⊥) (λ rest. line.entry.now ≡ word.entry.now ++ rest.now) }
 {
     if line.len() < word.len() {
         return None;
@@ -95,7 +97,8 @@ pub fn read_step(line: &[u8]) -> Option<ProofStep>
 
 /// The two places that the line tells, and `None` where it is no such line.
 pub fn read_places(line: &[u8]) -> Option<(u32, u32)>
-    ensures { MatchOption result (AreNoPlaces line.now) (λ pair. line.now ≡ places_text pair.0 pair.1) }
+    ensures { MatchOption result (AreNoPlaces line.now) (λ pair. line.now
+        ≡ places_text pair.0 pair.1) }
 {
     let Some(rest) = rest_of(line, b"at ") else {
         return None;

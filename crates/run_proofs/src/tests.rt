@@ -38,7 +38,8 @@ fn named(alloc: Global) -> Option<Ontology>
     Some(ontology)
 }
 
-/// Servers run something, what is run is a process, what runs something is a server, and no server is a process.
+/// Servers run something, what is run is a process, what runs something is a server, and no server
+/// is a process.
 fn stated(alloc: Global) -> Option<Ontology> {
     let mut ontology = named(alloc)?;
     ontology
@@ -71,7 +72,8 @@ fn runs_process(alloc: Global) -> Result<Cq, Memory>
     })
 }
 
-/// Whether the run of a server and two steps shows that something runs a process, which is the null of the number.
+/// Whether the run of a server and two steps shows that something runs a process, which is the
+/// null of the number.
 fn shows_process(alloc: Global, null: u32) -> Option<bool> {
     let ontology = stated(alloc)?;
     let mut run = Vec::from_array(alloc, [Fact::Concept(ConceptId(0), INDIVIDUAL)]).ok()?;
@@ -106,7 +108,8 @@ fn runs_itself() -> Fact
     Fact::Role(RoleId(0), INDIVIDUAL, INDIVIDUAL)
 }
 
-/// Whether what runs itself, and so is a process and a server, meets the clash by the facts at the places.
+/// Whether what runs itself, and so is a process and a server, meets the clash by the facts at the
+/// places.
 fn shows_clash(alloc: Global, first: u32, second: u32) -> Option<bool> {
     let ontology = stated(alloc)?;
     let proof = Proof {
@@ -118,7 +121,8 @@ fn shows_clash(alloc: Global, first: u32, second: u32) -> Option<bool> {
     verify(alloc, &ontology, &[], &proof).ok()
 }
 
-// The process is made at place 1 and the server at place 2; the left side of the clash is the server.
+// The process is made at place 1 and the server at place 2; the left side of the clash is the
+// server.
 #[test]
 fn meets_a_clash(rt: HostRuntime) {
     assert!(rt; shows_clash(rt.alloc(), 2, 1) == Some(true));

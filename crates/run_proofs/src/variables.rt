@@ -23,7 +23,8 @@ fn place_for(numbers: &[u16], number: u16) -> usize
 
 /// Whether the number stands at the place.
 fn stands_at(numbers: &[u16], place: usize, number: u16) -> bool
-    ensures { IsTrue result ↔ (place < length numbers.now) × (slice_index numbers.now place ≡ number) }
+    ensures { IsTrue result ↔ (place < length numbers.now) × (slice_index numbers.now place
+        ≡ number) }
 {
     place < numbers.len() && numbers[place] == number
 }
@@ -32,7 +33,8 @@ fn stands_at(numbers: &[u16], place: usize, number: u16) -> bool
 fn add_number(numbers: &mut Vec<u16>, number: u16) -> Result<(), Memory>
     requires { AllPairs (λ v w. v < w) numbers.old.items }
     ensures rising { OnOk result (AllPairs (λ v w. v < w) numbers.new.items) }
-    ensures member { OnOk result ((v : ℕ) → Contains numbers.new.items v ↔ Contains numbers.old.items v ⊎ (number ≡ v)) }
+    ensures member { OnOk result ((v : ℕ) → Contains numbers.new.items v
+        ↔ Contains numbers.old.items v ⊎ (number ≡ v)) }
 {
     let place = place_for(numbers.as_slice(), number);
     if stands_at(numbers.as_slice(), place, number) {
@@ -46,7 +48,8 @@ fn add_number(numbers: &mut Vec<u16>, number: u16) -> Result<(), Memory>
 fn add_term(numbers: &mut Vec<u16>, term: Term) -> Result<(), Memory>
     requires { AllPairs (λ v w. v < w) numbers.old.items }
     ensures rising { OnOk result (AllPairs (λ v w. v < w) numbers.new.items) }
-    ensures member { OnOk result ((v : ℕ) → Contains numbers.new.items v ↔ Contains numbers.old.items v ⊎ (term ≡ Var v)) }
+    ensures member { OnOk result ((v : ℕ) → Contains numbers.new.items v
+        ↔ Contains numbers.old.items v ⊎ (term ≡ Var v)) }
 {
     match term {
         Term::Var(number) => add_number(numbers, number),
@@ -58,7 +61,8 @@ fn add_term(numbers: &mut Vec<u16>, term: Term) -> Result<(), Memory>
 fn add_atom(numbers: &mut Vec<u16>, atom: &Atom) -> Result<(), Memory>
     requires { AllPairs (λ v w. v < w) numbers.old.items }
     ensures rising { OnOk result (AllPairs (λ v w. v < w) numbers.new.items) }
-    ensures member { OnOk result ((v : ℕ) → Contains numbers.new.items v ↔ Contains numbers.old.items v ⊎ HasTerm atom.now (Var v)) }
+    ensures member { OnOk result ((v : ℕ) → Contains numbers.new.items v
+        ↔ Contains numbers.old.items v ⊎ HasTerm atom.now (Var v)) }
 {
     match *atom {
         Atom::Concept(_, term) => add_term(numbers, term),
