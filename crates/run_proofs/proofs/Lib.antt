@@ -6,3 +6,4 @@ pub mod Showing
 pub mod Leaves
 pub mod Words
 pub mod OneReading
+pub mod Places

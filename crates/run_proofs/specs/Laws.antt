@@ -7,13 +7,21 @@ use Rattle.dl_syntax.specs.Chase.{Run}
 use Rattle.tcq_syntax.specs.Tcq.{Tcq}
 use Rattle.run_proofs.specs.declared.proof.ProofStep.{ProofStep}
 use Rattle.run_proofs.specs.declared.proof.Proof.{Proof}
-use Rattle.run_proofs.specs.Growing.{run_after}
+use Rattle.run_proofs.specs.Growing.{run_after, AllMake}
 use Rattle.run_proofs.specs.Shows.{Shows, Holds}
 use Rattle.run_proofs.specs.Texts.{step_text, places_text}
 
 -- steps by places lead from a run to a run
 abbrev pub StepsMakeRun : Type 0
 StepsMakeRun = (inclusions : List Inclusion) (snapshot run : List Fact) (steps : List ProofStep) → Run inclusions snapshot run → Run inclusions snapshot (run_after inclusions run steps)
+
+-- some steps, each of which makes something, lead from the snapshot's facts to the run
+abbrev pub LeadsTo : List Inclusion → List Fact → List Fact → Type 0
+LeadsTo inclusions snapshot run = (steps : List ProofStep) × AllMake inclusions snapshot steps × (run_after inclusions snapshot steps ≡ run)
+
+-- such steps lead to each run
+abbrev pub RunsHaveSteps : Type 0
+RunsHaveSteps = (inclusions : List Inclusion) (snapshot run : List Fact) → Run inclusions snapshot run → LeadsTo inclusions snapshot run
 
 -- what a proof shows holds
 abbrev pub ShownHolds : Type 0

@@ -1,9 +1,14 @@
 //! Laws of the definitions, each the contract of a function with nothing to do.
-ghost use Rattle.run_proofs.specs.Laws.{StepsMakeRun, ShownHolds, OneStep, OnePairOfPlaces};
+ghost use Rattle.run_proofs.specs.Laws.{StepsMakeRun, RunsHaveSteps, ShownHolds, OneStep, OnePairOfPlaces};
 
 /// Steps that name facts by their places lead from a run to a run.
 pub fn steps_make_run()
     ensures { StepsMakeRun }
+{}
+
+/// Such steps, each of which makes something, lead to each run of a snapshot.
+pub fn runs_have_steps()
+    ensures { RunsHaveSteps }
 {}
 
 /// What a proof shows holds: the row is a certain answer of the leaf, or some run of the facts
