@@ -41,9 +41,13 @@ abbrev pub query_name : Option Tcq → Text
 query_name None = []
 query_name (Some query) = query.name
 
+-- what is to be shown of a clash
+abbrev pub clash_text : ℕ → Text
+clash_text number = codes "proof clash " ++ decimal number
+
 abbrev pub goal_text : List Text → List Tcq → Goal → Text
 goal_text names queries (goal.Answer query leaf row) = codes "proof answer " ++ query_name (slice_get queries query) ++ 32 ∷ decimal leaf ++ flat_map (λ i. 32 ∷ slice_index_or names i.0 []) row
-goal_text names queries (goal.Clash number) = codes "proof clash " ++ decimal number
+goal_text names queries (goal.Clash number) = clash_text number
 
 abbrev pub fact_text : Declared → Fact → Text
 fact_text o (fact.Concept c x) = slice_index_or o.concepts c.0 [] ++ 40 ∷ element_text o.individuals x ++ 41 ∷ []
@@ -81,3 +85,7 @@ IsNoStep line = (step : ProofStep) → step.from < 2 ^ 32 → step.inclusion < 2
 -- no two places are
 abbrev pub AreNoPlaces : Text → Type 0
 AreNoPlaces line = (m n : ℕ) → m < 2 ^ 32 → n < 2 ^ 32 → line ≡ places_text m n → ⊥
+
+-- no clash of such a number is
+abbrev pub IsNoClash : Text → Type 0
+IsNoClash line = (n : ℕ) → n < 2 ^ 32 → line ≡ clash_text n → ⊥

@@ -14,7 +14,9 @@ mod reading;
 #[cfg(test)]
 mod tests;
 mod variables;
+mod writing;
 
 pub use checking::verify;
 pub use proof::{Ending, Goal, Proof, ProofStep};
-pub use reading::{read_places, read_step};
+pub use reading::{read_clash, read_places, read_step};
+pub use writing::{append_clash, append_places, append_step};

@@ -1,6 +1,7 @@
 ghost use Rattle.std.specs.Prelude.{◌≤◌, length, take, ◌≡◌, ◌≢◌, ◌++◌, ◌∷◌, ◌↔◌, ℕ, decimal, codes, IsTrue, MatchOption, List};
 ghost use Rattle.std.specs.List.{All};
 ghost use Rattle.run_proofs.specs.Texts.{pair_text, step_text, places_text, IsNoNumber, IsNoPair, IsNoStep, AreNoPlaces};
+ghost use Rattle.run_proofs.specs.Texts.{clash_text, IsNoClash};
 
 use crate::proof::ProofStep;
 use itoa::Buffer;
@@ -104,4 +105,15 @@ pub fn read_places(line: &[u8]) -> Option<(u32, u32)>
         return None;
     };
     read_pair(rest)
+}
+
+/// The number of the clash that the first line of a proof tells, and `None` where it is no such
+/// line.
+pub fn read_clash(line: &[u8]) -> Option<u32>
+    ensures { MatchOption result (IsNoClash line.now) (λ number. line.now ≡ clash_text number) }
+{
+    let Some(rest) = rest_of(line, b"proof clash ") else {
+        return None;
+    };
+    read_number(rest)
 }
