@@ -7,3 +7,4 @@ pub mod Leaves
 pub mod Words
 pub mod OneReading
 pub mod Places
+pub mod Names

@@ -1,5 +1,5 @@
 -- A proof as lines of text.
-use Rattle.std.specs.Prelude.{◌≡◌, ℕ, ◌<◌, ◌^◌, List, [], ◌∷◌, ◌++◌, codes, decimal, flat_map, map, slice_index_or, Option, Some, None, slice_get}
+use Rattle.std.specs.Prelude.{◌≡◌, ℕ, ◌<◌, ◌^◌, List, [], ◌∷◌, ◌++◌, codes, decimal, flat_map, map, length, slice_index_or, Option, Some, None, slice_get}
 use Rattle.dl_syntax.specs.declared.facts.Element.{Element}
 use Rattle.dl_syntax.specs.declared.facts.Element.TheVariants.{Ind as ind_element, Null}
 use Rattle.dl_syntax.specs.declared.facts.Fact.{Fact}
@@ -89,3 +89,12 @@ AreNoPlaces line = (m n : ℕ) → m < 2 ^ 32 → n < 2 ^ 32 → line ≡ places
 -- no clash of such a number is
 abbrev pub IsNoClash : Text → Type 0
 IsNoClash line = (n : ℕ) → n < 2 ^ 32 → line ≡ clash_text n → ⊥
+
+-- an individual that the ontology declares, or a null with a number of 32 bits
+abbrev pub IsWritable : List Text → Element → Type 0
+IsWritable names (ind_element i) = i.0 < length names
+IsWritable names (Null number) = number < 2 ^ 32
+
+-- no such element is written so
+abbrev pub IsNoElement : List Text → Text → Type 0
+IsNoElement names word = (e : Element) → IsWritable names e → word ≡ element_text names e → ⊥

@@ -7,6 +7,7 @@
 #![tactic(auto)]
 
 mod checking;
+mod elements;
 pub mod laws;
 mod matching;
 mod proof;
@@ -17,6 +18,7 @@ mod variables;
 mod writing;
 
 pub use checking::verify;
+pub use elements::read_element;
 pub use proof::{Ending, Goal, Proof, ProofStep};
 pub use reading::{read_clash, read_places, read_step};
 pub use writing::{append_clash, append_places, append_step};

@@ -15,7 +15,7 @@ fn is_decimal(number: u32, word: &[u8]) -> bool
 }
 
 /// The number that the word is in decimal digits, without leading zeros.
-fn read_number(word: &[u8]) -> Option<u32>
+pub(crate) fn read_number(word: &[u8]) -> Option<u32>
     ensures { MatchOption result (IsNoNumber word.now) (λ n. word.now ≡ decimal n) }
 {
     let Ok(text) = str::from_utf8(word) else {
@@ -69,7 +69,7 @@ fn begins_with(line: &[u8], word: &[u8]) -> bool
 }
 
 /// The rest of a line that begins with the word.
-fn rest_of<'a>(line: &'a [u8], word: &[u8]) -> Option<&'a [u8]>
+pub(crate) fn rest_of<'a>(line: &'a [u8], word: &[u8]) -> Option<&'a [u8]>
     ensures { MatchOption result ((rest : List ℕ) → line.entry.now ≡ word.entry.now ++ rest
         → ⊥) (λ rest. line.entry.now ≡ word.entry.now ++ rest.now) }
 {
