@@ -2,7 +2,7 @@
 use Rattle.std.proofs.Common.{◌≡◌, ℕ, ◌≤◌, ◌^◌, inl, inr, Option, None, Some, List, ◌++◌, length, refl, sym, ◌∙◌, ap, subst, arith, length-append}
 use Rattle.edge_io.specs.Causes.{Rose}
 use Rattle.edge_io.specs.Known.{Takes}
-use Rattle.command_words.specs.Meanings.{Meaning, watch, rewrite, drill, meaning_of_words}
+use Rattle.command_words.specs.Meanings.{Meaning, watch, rewrite, contain, drill, meaning_of_words}
 use Rattle.stream_report.specs.declared.ending.Ending.{Ending}
 use Rattle.stream_report.specs.declared.ending.Ending.TheVariants.{Done, Usage, Refused, ReadFault, WriteFault, Memory, StreamLimit}
 use Rattle.stream_report.specs.Ends.{StreamEnds, TextEnds}
@@ -10,8 +10,10 @@ use Rattle.stream_report.specs.Outside.{Ports, Outside}
 use Rattle.stream_report.specs.Told.{Manner}
 use Rattle.monitor_run.specs.declared.ending.Refusal.{Refusal}
 use Rattle.monitor_run.specs.Ends.{status_of}
+use Rattle.monitor_run.specs.Containments.{refuses_no_leaf}
+use Rattle.monitor_run.specs.Sources.{nothing_more}
 use Rattle.monitor_run.specs.Jobs.{asked_by}
-use Rattle.monitor_run.specs.Laws.{IsDone, IsGood, IsGoodRewriting, IsGoodDrill, Completeness, RewritingCompleteness, DrillCompleteness}
+use Rattle.monitor_run.specs.Laws.{IsDone, IsGood, IsGoodRewriting, IsGoodContainment, IsGoodDrill, Completeness, RewritingCompleteness, ContainmentCompleteness, DrillCompleteness}
 use Rattle.monitor_run.specs.Running.{AskedEnds, Performed, RunEnds}
 use Rattle.monitor_run.proofs.GoodSources.{files_memory, made_memory}
 
@@ -67,7 +69,7 @@ text_done is_text before now no_write ReadFault (input, (text, is, written), fau
 text_done is_text before now no_write StreamLimit (input, (text, is, written), fault) = absurd written.is
 
 watch_done : (words : List (List ℕ)) (before now : Outside) (good : IsGood words before now) (ending : Ending Refusal) → AskedEnds (asked_by (watch good.asked)) ending before now → IsDone (status_of ending)
-watch_done words before now good ending (stay, inl (fails, untouched)) = for_memory ending (files_memory (record { ontology = good.asked.ontology; queries = good.asked.queries }) before now good.files ending fails)
+watch_done words before now good ending (stay, inl (fails, untouched)) = for_memory ending (files_memory nothing_more (record { ontology = good.asked.ontology; queries = good.asked.queries }) before now good.files ending fails)
 watch_done words before now good ending (stay, inr (setting, opens, ends)) =
     stream_done _ _ before.ports now.ports good.stream good.left good.short good.no_read_fault good.files.no_write_fault ending ends
 
@@ -78,7 +80,7 @@ completeness status words before now eb en ran good =
     (λ is same. for_memory ran.ending is) (watch_done words before now good ran.ending) ran.ends)
 
 rewriting_done : (words : List (List ℕ)) (before now : Outside) (good : IsGoodRewriting words before now) (ending : Ending Refusal) → AskedEnds (asked_by (rewrite good.names.ontology good.names.queries)) ending before now → IsDone (status_of ending)
-rewriting_done words before now good ending (stay, inl (fails, untouched)) = for_memory ending (files_memory good.names before now good.files ending fails)
+rewriting_done words before now good ending (stay, inl (fails, untouched)) = for_memory ending (files_memory nothing_more good.names before now good.files ending fails)
 rewriting_done words before now good ending (stay, inr (setting, opens, ends)) = text_done _ before.ports now.ports good.files.no_write_fault ending ends
 
 pub rewriting_completeness : RewritingCompleteness
@@ -86,6 +88,16 @@ rewriting_completeness status words before now eb en ran good =
     subst IsDone (sym ran.status_is)
     (by_meaning (IsDone (status_of ran.ending)) words (rewrite good.names.ontology good.names.queries) before now good.words_mean ran.ending
     (λ is same. for_memory ran.ending is) (rewriting_done words before now good ran.ending) ran.ends)
+
+containment_done : (words : List (List ℕ)) (before now : Outside) (good : IsGoodContainment words before now) (ending : Ending Refusal) → AskedEnds (asked_by (contain good.names.ontology good.names.queries)) ending before now → IsDone (status_of ending)
+containment_done words before now good ending (stay, inl (fails, untouched)) = for_memory ending (files_memory refuses_no_leaf good.names before now good.files ending fails)
+containment_done words before now good ending (stay, inr (setting, opens, ends)) = text_done _ before.ports now.ports good.files.no_write_fault ending ends
+
+pub containment_completeness : ContainmentCompleteness
+containment_completeness status words before now eb en ran good =
+    subst IsDone (sym ran.status_is)
+    (by_meaning (IsDone (status_of ran.ending)) words (contain good.names.ontology good.names.queries) before now good.words_mean ran.ending
+    (λ is same. for_memory ran.ending is) (containment_done words before now good ran.ending) ran.ends)
 
 drill_done : (words : List (List ℕ)) (before now : Outside) (good : IsGoodDrill words before now) (ending : Ending Refusal) → AskedEnds (asked_by (drill good.seed good.count)) ending before now → IsDone (status_of ending)
 drill_done words before now good ending (stay, inl (fails, untouched)) = for_memory ending (made_memory good.setting good.opens ending fails)

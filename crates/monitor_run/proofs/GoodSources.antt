@@ -12,7 +12,7 @@ use Rattle.stream_report.specs.declared.ending.Ending.{Ending}
 use Rattle.stream_report.specs.declared.ending.Ending.TheVariants.{Done, Usage, Refused, ReadFault, WriteFault, Memory, StreamLimit}
 use Rattle.stream_report.specs.Outside.{Outside}
 use Rattle.monitor_run.specs.declared.ending.Refusal.{Refusal}
-use Rattle.monitor_run.specs.declared.ending.Refusal.TheVariants.{BadOntology, TooManyRewritings, BadQueries}
+use Rattle.monitor_run.specs.declared.ending.Refusal.TheVariants.{BadOntology, TooManyRewritings, BadQueries, NotALeaf}
 use Rattle.monitor_run.specs.Jobs.{FileNames}
 use Rattle.monitor_run.specs.Laws.{HasGoodFiles}
 use Rattle.monitor_run.specs.Opening.{HasText, Is}
@@ -42,11 +42,12 @@ module _ (is_ontology is_queries : List ℕ → Type 0) (one_ontology : (a b : L
       let queries : one.queries ≡ other.queries = one_saying other.ontology q.queries one.queries other.queries says q.queries_say in
       ap (λ (d : Declared). record { ontology = d; queries = one.queries }) ontology ∙ ap (λ (qs : List Tcq). record { ontology = other.ontology; queries = qs }) queries
 
-  module _ (setting : Setting) (opens : Opens nothing_more (Says is_ontology is_queries) setting) where
+  module _ (own : Setting → Refusal → Type 0) (setting : Setting) (opens : Opens own (Says is_ontology is_queries) setting) where
     never_faulty : (refusal : Refusal) → ¬ AreFaulty is_ontology is_queries refusal
     never_faulty (BadOntology line kind) bad =
         no_ok (text_says bad.text) line kind setting.ontology bad.fault (ap text_says (one_ontology bad.text opens.say.ontology bad.is opens.say.ontology_is) ∙ opens.say.ontology_says)
     never_faulty TooManyRewritings bad = bad
+    never_faulty (NotALeaf name) bad = bad
     never_faulty (BadQueries line kind) bad =
         let ontology : bad.ontology ≡ setting.ontology = same_ontology bad.says.text opens.say.ontology bad.ontology setting.ontology bad.says.is opens.say.ontology_is bad.says.says opens.say.ontology_says in
         let text : bad.text ≡ opens.say.queries = one_queries bad.text opens.say.queries bad.is opens.say.queries_is in
@@ -54,12 +55,12 @@ module _ (is_ontology is_queries : List ℕ → Type 0) (one_ontology : (a b : L
         subst (λ (d : Declared). SaysQueries d bad.text setting.queries) (sym ontology) (subst (λ (t : List ℕ). SaysQueries setting.ontology t setting.queries) (sym text) opens.say.queries_say) in
         no_fault bad.ontology bad.text setting.queries line says kind bad.fault
 
-    never_refused : (other : Setting) (refusal : Refusal) → Says is_ontology is_queries other → ¬ IsRefused nothing_more other (Refused refusal)
-    never_refused other refusal say (inl own) = own
+    never_refused : (other : Setting) (refusal : Refusal) → Says is_ontology is_queries other → ¬ IsRefused own other (Refused refusal)
+    never_refused other refusal say (inl refuses) = opens.taken refusal (subst (λ (s : Setting). own s refusal) (same_setting other setting say opens.say) refuses)
     never_refused other refusal say (inr (is, taken, many)) = opens.few (subst AreTooMany (same_setting other setting say opens.say) many)
 
     -- the opening fails for want of memory alone, where reading the sources does
-    pub only_memory : (unread : Ending Refusal → Type 0) → ((ending : Ending Refusal) → unread ending → ending ≡ Memory) → (ending : Ending Refusal) → OpeningFails nothing_more (Says is_ontology is_queries) unread ending → ending ≡ Memory
+    pub only_memory : (unread : Ending Refusal → Type 0) → ((ending : Ending Refusal) → unread ending → ending ≡ Memory) → (ending : Ending Refusal) → OpeningFails own (Says is_ontology is_queries) unread ending → ending ≡ Memory
     only_memory unread memory ending (inl fails) = memory ending fails
     only_memory unread memory Memory (inr refused) = refl
     only_memory unread memory (Refused refusal) (inr refused) = absurd (never_refused refused.0 refusal refused.1 refused.2)
@@ -86,14 +87,14 @@ never_lacks held files name text told has lacks =
     let none : Some text ≡ None = sym here ∙ there in
     cc
 
-module _ (names : FileNames) (before now : Outside) (good : HasGoodFiles names before now) where
+module _ (own : Setting → Refusal → Type 0) (names : FileNames) (before now : Outside) (good : HasGoodFiles own names before now) where
   abbrev one_of : (name one other : List ℕ) → HasText before.files.held name one → HasText before.files.held name other → one ≡ other
   one_of name one other p q = one_text before.files.held good.files name one other good.held p q
 
   unread_memory : (ending : Ending Refusal) → FilesUnread before.files now.files names ending → ending ≡ Memory
   unread_memory Memory unread = refl
   unread_memory (Refused refusal) unread =
-      absurd (never_faulty (HasText before.files.held names.ontology) (HasText before.files.held names.queries) (one_of names.ontology) (one_of names.queries) good.setting good.opens refusal unread)
+      absurd (never_faulty (HasText before.files.held names.ontology) (HasText before.files.held names.queries) (one_of names.ontology) (one_of names.queries) own good.setting good.opens refusal unread)
   unread_memory ReadFault (inl rose) = absurd (good.no_file_fault rose)
   unread_memory ReadFault (inr (inl lacks)) = absurd (never_lacks before.files.held good.files names.ontology good.opens.say.ontology good.held good.opens.say.ontology_is lacks)
   unread_memory ReadFault (inr (inr (says, lacks))) = absurd (never_lacks before.files.held good.files names.queries good.opens.say.queries good.held good.opens.say.queries_is lacks)
@@ -103,9 +104,9 @@ module _ (names : FileNames) (before now : Outside) (good : HasGoodFiles names b
   unread_memory StreamLimit unread = absurd unread
 
   -- good files open but for want of memory
-  pub files_memory : (ending : Ending Refusal) → OpeningFails nothing_more (FilesSay before.files.held names) (FilesUnread before.files now.files names) ending → ending ≡ Memory
+  pub files_memory : (ending : Ending Refusal) → OpeningFails own (FilesSay before.files.held names) (FilesUnread before.files now.files names) ending → ending ≡ Memory
   files_memory ending fails =
-      only_memory (HasText before.files.held names.ontology) (HasText before.files.held names.queries) (one_of names.ontology) (one_of names.queries) good.setting good.opens
+      only_memory (HasText before.files.held names.ontology) (HasText before.files.held names.queries) (one_of names.ontology) (one_of names.queries) own good.setting good.opens
       (FilesUnread before.files now.files names) unread_memory ending fails
 
 -- ---- what a drill makes
@@ -114,7 +115,7 @@ module _ (setting : Setting) (opens : Opens nothing_more MadeSay setting) where
   texts_memory : (ending : Ending Refusal) → TextsUnread ontology_text queries_text ending → ending ≡ Memory
   texts_memory Memory unread = refl
   texts_memory (Refused refusal) unread =
-      absurd (never_faulty (Is ontology_text) (Is queries_text) (λ a b x y. x ∙ sym y) (λ a b x y. x ∙ sym y) setting opens refusal unread)
+      absurd (never_faulty (Is ontology_text) (Is queries_text) (λ a b x y. x ∙ sym y) (λ a b x y. x ∙ sym y) nothing_more setting opens refusal unread)
   texts_memory Done unread = absurd unread
   texts_memory Usage unread = absurd unread
   texts_memory ReadFault unread = absurd unread
@@ -123,4 +124,4 @@ module _ (setting : Setting) (opens : Opens nothing_more MadeSay setting) where
 
   pub made_memory : (ending : Ending Refusal) → OpeningFails nothing_more MadeSay (TextsUnread ontology_text queries_text) ending → ending ≡ Memory
   made_memory ending fails =
-      only_memory (Is ontology_text) (Is queries_text) (λ a b x y. x ∙ sym y) (λ a b x y. x ∙ sym y) setting opens (TextsUnread ontology_text queries_text) texts_memory ending fails
+      only_memory (Is ontology_text) (Is queries_text) (λ a b x y. x ∙ sym y) (λ a b x y. x ∙ sym y) nothing_more setting opens (TextsUnread ontology_text queries_text) texts_memory ending fails

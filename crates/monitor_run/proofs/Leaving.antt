@@ -1,18 +1,18 @@
 -- What runs leave as it was.
 use Rattle.std.proofs.Common.{◌≡◌, ℕ, inl, inr, List, sym, ◌∙◌, ap}
 use Rattle.std.specs.Prelude.{◌⊎◌}
-use Rattle.command_words.specs.Meanings.{Meaning, rewrite, drill, meaning_of_words}
+use Rattle.command_words.specs.Meanings.{Meaning, rewrite, contain, drill, meaning_of_words}
 use Rattle.command_words.specs.Meanings as meaning
 use Rattle.stream_report.specs.declared.ending.Ending.{Ending}
 use Rattle.stream_report.specs.declared.ending.Ending.TheVariants.{Done, Usage, Refused, ReadFault, WriteFault, Memory, StreamLimit}
 use Rattle.stream_report.specs.Outside.{FilesTold, Outside}
 use Rattle.stream_report.proofs.TextEndings.{text_leaves}
 use Rattle.monitor_run.specs.declared.ending.Refusal.{Refusal}
-use Rattle.monitor_run.specs.declared.ending.Refusal.TheVariants.{BadOntology, TooManyRewritings, BadQueries}
+use Rattle.monitor_run.specs.declared.ending.Refusal.TheVariants.{BadOntology, TooManyRewritings, BadQueries, NotALeaf}
 use Rattle.monitor_run.specs.declared.ending.Status.TheVariants as status
 use Rattle.monitor_run.specs.Ends.{status_of, status_of_refusal}
 use Rattle.monitor_run.specs.Jobs.{asked_by}
-use Rattle.monitor_run.specs.Laws.{DrillLeaves, RewritingLeaves, UsageLeaves, RefusalLeaves}
+use Rattle.monitor_run.specs.Laws.{DrillLeaves, RewritingLeaves, ContainmentLeaves, UsageLeaves, RefusalLeaves}
 use Rattle.monitor_run.specs.Running.{AskedEnds, RunEnds}
 use Rattle.monitor_run.proofs.Completing.{by_meaning}
 
@@ -35,10 +35,20 @@ rewriting_leaves s words before now eb en o q ran is =
     by_meaning (now.ports.input ≡ before.ports.input) words (rewrite o q) before now is ran.ending
     (λ memory same. ap (λ (o : Outside). o.ports.input) same) (rewriting_leaves_input o q before now ran.ending) ran.ends
 
+containment_leaves_input : (o q : List ℕ) (before now : Outside) (ending : Ending Refusal) → AskedEnds (asked_by (contain o q)) ending before now → now.ports.input ≡ before.ports.input
+containment_leaves_input o q before now ending (stay, inl (fails, untouched)) = untouched.input
+containment_leaves_input o q before now ending (stay, inr (setting, opens, ends)) = text_leaves _ ending before.ports now.ports ends
+
+pub containment_leaves : ContainmentLeaves
+containment_leaves s words before now eb en o q ran is =
+    by_meaning (now.ports.input ≡ before.ports.input) words (contain o q) before now is ran.ending
+    (λ memory same. ap (λ (o : Outside). o.ports.input) same) (containment_leaves_input o q before now ran.ending) ran.ends
+
 refusal_is_no_usage : (refusal : Refusal) → status.Usage ≡ status_of_refusal refusal → ⊥
 refusal_is_no_usage (BadOntology line kind) is = cc
 refusal_is_no_usage TooManyRewritings is = cc
 refusal_is_no_usage (BadQueries line kind) is = cc
+refusal_is_no_usage (NotALeaf name) is = cc
 
 usage_untouched : (words : List (List ℕ)) (before now : Outside) (ending : Ending Refusal) → status.Usage ≡ status_of ending → RunEnds ending words before now → now ≡ before
 usage_untouched words before now Usage is ends = ends.1
@@ -60,6 +70,8 @@ refused_leaves (meaning.watch w) refusal before now (stay, inl (fails, untouched
 refused_leaves (meaning.watch w) refusal before now (stay, inr (setting, opens, (run, fault))) = absurd run.writes
 refused_leaves (meaning.rewrite o q) refusal before now (stay, inl (fails, untouched)) = (stay, untouched.input, untouched.out)
 refused_leaves (meaning.rewrite o q) refusal before now (stay, inr (setting, opens, (input, (text, is, written), fault))) = absurd written.is
+refused_leaves (meaning.contain o q) refusal before now (stay, inl (fails, untouched)) = (stay, untouched.input, untouched.out)
+refused_leaves (meaning.contain o q) refusal before now (stay, inr (setting, opens, (input, (text, is, written), fault))) = absurd written.is
 refused_leaves (meaning.drill seed count) refusal before now (files, inl (fails, untouched)) = (ap (λ (f : FilesTold). f.held) files, untouched.input, untouched.out)
 refused_leaves (meaning.drill seed count) refusal before now (files, inr (setting, opens, (input, (text, is, written), fault))) = absurd written.is
 

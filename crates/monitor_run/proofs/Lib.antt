@@ -13,6 +13,9 @@ mod Gathering
 mod SourceTexts
 mod SortedTexts
 mod OneText
+mod PairTexts
+mod OnePairs
+mod LeafQueries
 pub mod Openings
 mod RunLaws
 mod Rehearsals

@@ -13,7 +13,7 @@ use Rattle.stream_report.specs.Outside.{FilesTold, Outside}
 use Rattle.stream_report.specs.Told.{Part}
 use Rattle.stream_report.proofs.ReportLaws.{limit_is_exact}
 use Rattle.monitor_run.specs.declared.ending.Refusal.{Refusal}
-use Rattle.monitor_run.specs.declared.ending.Refusal.TheVariants.{BadOntology, TooManyRewritings, BadQueries}
+use Rattle.monitor_run.specs.declared.ending.Refusal.TheVariants.{BadOntology, TooManyRewritings, BadQueries, NotALeaf}
 use Rattle.monitor_run.specs.declared.ending.Status.TheVariants as status
 use Rattle.monitor_run.specs.Ends.{status_of, status_of_refusal}
 use Rattle.monitor_run.specs.Jobs.{FileNames, asked_by}
@@ -31,6 +31,7 @@ no_refusal_status : (refusal : Refusal) → status_of_refusal refusal ≡ status
 no_refusal_status (BadOntology line kind) is = cc
 no_refusal_status TooManyRewritings is = cc
 no_refusal_status (BadQueries line kind) is = cc
+no_refusal_status (NotALeaf name) is = cc
 
 -- the status of the limit is of that ending alone
 at_limit : (ending : Ending Refusal) → status_of ending ≡ status.StreamLimit → ending ≡ StreamLimit

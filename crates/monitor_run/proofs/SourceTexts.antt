@@ -12,7 +12,7 @@ use Rattle.stream_report.specs.declared.ending.Ending.{Ending}
 use Rattle.stream_report.specs.declared.ending.Ending.TheVariants.{Done, Usage, Refused, ReadFault, WriteFault, Memory, StreamLimit}
 use Rattle.stream_report.specs.Outside.{FilesTold}
 use Rattle.monitor_run.specs.declared.ending.Refusal.{Refusal}
-use Rattle.monitor_run.specs.declared.ending.Refusal.TheVariants.{BadOntology, TooManyRewritings, BadQueries}
+use Rattle.monitor_run.specs.declared.ending.Refusal.TheVariants.{BadOntology, TooManyRewritings, BadQueries, NotALeaf}
 use Rattle.monitor_run.specs.Jobs.{FileNames}
 use Rattle.monitor_run.specs.Sources.{IsFetchRefused, IsOntologyAtFault, AreQueriesAtFault, FilesSay, FilesUnread, TextsUnread}
 use Rattle.monitor_run.proofs.Texts.{Fetched, fetched, same_ontology, queries_there, fault_there}
@@ -24,6 +24,7 @@ ontology_fault before now names bytes read (Refused (BadOntology line kind)) is 
     let file : Fetched before.held names.ontology bytes = fetched before.held names.ontology bytes is in
     record { text = file.text; is = file.has; fault = same_ontology file.text bytes file.cut ∙ subst (λ (t : List ℕ). text_says t ≡ Err (line, kind)) same fault }
 ontology_fault before now names bytes read (Refused TooManyRewritings) is same fault = absurd fault
+ontology_fault before now names bytes read (Refused (NotALeaf leaf)) is same fault = absurd fault
 ontology_fault before now names bytes read (Refused (BadQueries line kind)) is same fault = absurd fault
 ontology_fault before now names bytes read Memory is same fault = tt
 ontology_fault before now names bytes read Done is same fault = absurd fault
@@ -105,6 +106,7 @@ queries_fault before now names ontology text (Refused (BadQueries line kind)) bo
       fault = fault_there ontology other.text text line kind other.cut fault;
     }
 queries_fault before now names ontology text (Refused TooManyRewritings) both fault = absurd fault
+queries_fault before now names ontology text (Refused (NotALeaf leaf)) both fault = absurd fault
 queries_fault before now names ontology text (Refused (BadOntology line kind)) both fault = absurd fault
 queries_fault before now names ontology text Memory both fault = tt
 queries_fault before now names ontology text Done both fault = absurd fault
@@ -119,6 +121,7 @@ module _ (ontology queries : List ℕ) where
   pub ontology_refused : (ending : Ending Refusal) → IsOntologyAtFault ontology ending → TextsUnread ontology queries ending
   ontology_refused (Refused (BadOntology line kind)) fault = record { text = ontology; is = refl; fault = fault }
   ontology_refused (Refused TooManyRewritings) fault = absurd fault
+  ontology_refused (Refused (NotALeaf leaf)) fault = absurd fault
   ontology_refused (Refused (BadQueries line kind)) fault = absurd fault
   ontology_refused Memory fault = tt
   ontology_refused Done fault = absurd fault
@@ -131,6 +134,7 @@ module _ (ontology queries : List ℕ) where
   queries_refused said (Refused (BadQueries line kind)) says fault =
       record { ontology = said; says = record { text = ontology; is = refl; says = says }; text = queries; is = refl; fault = fault }
   queries_refused said (Refused TooManyRewritings) says fault = absurd fault
+  queries_refused said (Refused (NotALeaf leaf)) says fault = absurd fault
   queries_refused said (Refused (BadOntology line kind)) says fault = absurd fault
   queries_refused said Memory says fault = tt
   queries_refused said Done says fault = absurd fault

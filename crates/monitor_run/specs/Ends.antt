@@ -7,8 +7,9 @@ use Rattle.tcq_reader.specs.declared.faults.QueryKind.TheVariants as query_kind
 use Rattle.stream_report.specs.declared.ending.Ending.{Ending}
 use Rattle.stream_report.specs.declared.ending.Ending.TheVariants.{Done, Usage, Refused, ReadFault, WriteFault, Memory, StreamLimit}
 use Rattle.monitor_run.specs.declared.ending.Refusal.{Refusal}
-use Rattle.monitor_run.specs.declared.ending.Refusal.TheVariants.{BadOntology, TooManyRewritings, BadQueries}
+use Rattle.monitor_run.specs.declared.ending.Refusal.TheVariants.{BadOntology, TooManyRewritings, BadQueries, NotALeaf}
 use Rattle.monitor_run.specs.declared.ending.Status.{Status}
+use Rattle.monitor_run.specs.Names.{name_in}
 use Rattle.monitor_run.specs.declared.ending.Status.TheVariants as status
 
 -- the status of a run whose sources were refused
@@ -16,6 +17,7 @@ abbrev pub status_of_refusal : Refusal → Status
 status_of_refusal (BadOntology line kind) = status.BadOntology
 status_of_refusal TooManyRewritings = status.BadOntology
 status_of_refusal (BadQueries line kind) = status.BadQueries
+status_of_refusal (NotALeaf name) = status.BadQueries
 
 abbrev pub status_of : Ending Refusal → Status
 status_of Done = status.Done
@@ -49,6 +51,7 @@ abbrev pub refusal_text : Refusal → List ℕ
 refusal_text (BadOntology line kind) = codes "ontology line " ++ decimal line ++ codes ": " ++ kind_text kind
 refusal_text TooManyRewritings = codes "ontology: too-many-rewritings"
 refusal_text (BadQueries line kind) = codes "queries line " ++ decimal line ++ codes ": " ++ query_kind_text kind
+refusal_text (NotALeaf name) = codes "queries: not-a-leaf " ++ name_in name
 
 -- what is said of an ending that is said
 abbrev pub message_of : Ending Refusal → List ℕ

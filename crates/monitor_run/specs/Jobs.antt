@@ -3,7 +3,7 @@ use Rattle.std.specs.Prelude.{ℕ, List}
 use Rattle.command_words.specs.Meanings.{Meaning}
 use Rattle.command_words.specs.Meanings as meaning
 use Rattle.monitor_run.specs.declared.jobs.Job.{Job}
-use Rattle.monitor_run.specs.declared.jobs.Job.TheVariants.{Watch, Rewrite}
+use Rattle.monitor_run.specs.declared.jobs.Job.TheVariants.{Watch, Rewrite, Contain}
 use Rattle.monitor_run.specs.declared.jobs.Names.{Names}
 use Rattle.monitor_run.specs.Task.{options_of}
 
@@ -25,4 +25,5 @@ pub data Asked : Type 0 where
 abbrev pub asked_by : Meaning → Asked
 asked_by (meaning.watch w) = on_files (record { ontology = w.ontology; queries = w.queries }) (Watch (options_of w))
 asked_by (meaning.rewrite ontology queries) = on_files (record { ontology = ontology; queries = queries }) Rewrite
+asked_by (meaning.contain ontology queries) = on_files (record { ontology = ontology; queries = queries }) Contain
 asked_by (meaning.drill seed count) = drill seed count

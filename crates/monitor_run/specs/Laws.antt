@@ -3,12 +3,14 @@ use Rattle.std.specs.Prelude.{◌≡◌, ◌≢◌, ◌⊎◌, ◌↔◌, ℕ, �
 use Rattle.edge_io.specs.Causes.{Rose}
 use Rattle.edge_io.specs.Held.{Store}
 use Rattle.edge_io.specs.Lines.{whole_items}
-use Rattle.command_words.specs.Meanings.{Watching, watch, rewrite, drill, meaning_of_words}
+use Rattle.command_words.specs.Meanings.{Watching, watch, rewrite, contain, drill, meaning_of_words}
 use Rattle.monitor_core.specs.Setting.{Setting}
 use Rattle.stream_report.specs.Told.{Part}
 use Rattle.stream_report.specs.Outside.{SinkTold, Outside}
 use Rattle.monitor_run.specs.declared.ending.Status.{Status}
 use Rattle.monitor_run.specs.declared.ending.Status.TheVariants.{Done, Usage, BadOntology, BadQueries, Memory, StreamLimit}
+use Rattle.monitor_run.specs.declared.ending.Refusal.{Refusal}
+use Rattle.monitor_run.specs.Containments.{refuses_no_leaf}
 use Rattle.monitor_run.specs.Jobs.{FileNames}
 use Rattle.monitor_run.specs.Report.{start, watching}
 use Rattle.monitor_run.specs.Task.{options_of}
@@ -19,12 +21,12 @@ use Rattle.monitor_run.specs.Sources.{nothing_more, Opens, FilesSay}
 abbrev pub IsDone : Status → Type 0
 IsDone status = (status ≡ Done) ⊎ (status ≡ Memory)
 
--- the files of these names have no fault and reach no more than may be, and neither they nor the output had a fault
-pub record HasGoodFiles (names : FileNames) (before now : Outside) : Type 0 where
+-- the files of these names have no fault, a job that refuses so by itself takes what they say, they reach no more than may be, and neither they nor the output had a fault
+pub record HasGoodFiles (own : Setting → Refusal → Type 0) (names : FileNames) (before now : Outside) : Type 0 where
   pub files : Store
   pub held : before.files.held ≡ Some files
   pub setting : Setting
-  pub opens : Opens nothing_more (FilesSay before.files.held names) setting
+  pub opens : Opens own (FilesSay before.files.held names) setting
   pub no_file_fault : ¬ Rose before.files.faults now.files.faults
   pub no_write_fault : ¬ Rose before.ports.out.faults now.ports.out.faults
 
@@ -32,7 +34,7 @@ pub record HasGoodFiles (names : FileNames) (before now : Outside) : Type 0 wher
 pub record IsGood (words : List (List ℕ)) (before now : Outside) : Type 0 where
   pub asked : Watching
   pub words_mean : meaning_of_words words ≡ Some (watch asked)
-  pub files : HasGoodFiles (record { ontology = asked.ontology; queries = asked.queries }) before now
+  pub files : HasGoodFiles nothing_more (record { ontology = asked.ontology; queries = asked.queries }) before now
   pub stream : List ℕ
   pub left : before.ports.input.left ≡ Some stream
   pub short : length stream ≤ 2 ^ 40
@@ -42,7 +44,13 @@ pub record IsGood (words : List (List ℕ)) (before now : Outside) : Type 0 wher
 pub record IsGoodRewriting (words : List (List ℕ)) (before now : Outside) : Type 0 where
   pub names : FileNames
   pub words_mean : meaning_of_words words ≡ Some (rewrite names.ontology names.queries)
-  pub files : HasGoodFiles names before now
+  pub files : HasGoodFiles nothing_more names before now
+
+-- the words are of a test of containment by such files, whose queries are leaves that name all their answer variables
+pub record IsGoodContainment (words : List (List ℕ)) (before now : Outside) : Type 0 where
+  pub names : FileNames
+  pub words_mean : meaning_of_words words ≡ Some (contain names.ontology names.queries)
+  pub files : HasGoodFiles refuses_no_leaf names before now
 
 -- the words are of a drill, what it makes reaches no more than may be, and the output had no fault
 pub record IsGoodDrill (words : List (List ℕ)) (before now : Outside) : Type 0 where
@@ -65,6 +73,12 @@ RewritingCompleteness =
     (status : Status) (words : List (List ℕ)) (before now : Outside) (err_before err_now : SinkTold) →
     Ran status words before now err_before err_now → IsGoodRewriting words before now → IsDone status
 
+-- a test of containment
+abbrev pub ContainmentCompleteness : Type 0
+ContainmentCompleteness =
+    (status : Status) (words : List (List ℕ)) (before now : Outside) (err_before err_now : SinkTold) →
+    Ran status words before now err_before err_now → IsGoodContainment words before now → IsDone status
+
 -- and a drill
 abbrev pub DrillCompleteness : Type 0
 DrillCompleteness =
@@ -83,6 +97,13 @@ abbrev pub RewritingLeaves : Type 0
 RewritingLeaves =
     (status : Status) (words : List (List ℕ)) (before now : Outside) (err_before err_now : SinkTold) (ontology queries : List ℕ) →
     Ran status words before now err_before err_now → meaning_of_words words ≡ Some (rewrite ontology queries) →
+    now.ports.input ≡ before.ports.input
+
+-- so does a test of containment
+abbrev pub ContainmentLeaves : Type 0
+ContainmentLeaves =
+    (status : Status) (words : List (List ℕ)) (before now : Outside) (err_before err_now : SinkTold) (ontology queries : List ℕ) →
+    Ran status words before now err_before err_now → meaning_of_words words ≡ Some (contain ontology queries) →
     now.ports.input ≡ before.ports.input
 
 -- words of no command leave everything as it was

@@ -4,6 +4,7 @@ pub mod Told
 pub mod Report
 pub mod Replies
 pub mod Props
+pub mod Names
 pub mod Ends
 pub mod Jobs
 pub mod Opening
@@ -11,6 +12,7 @@ pub mod Sayings
 pub mod Sources
 pub mod Leaves
 pub mod Reaching
+pub mod Containments
 pub mod Drill
 pub mod Running
 pub mod Laws

@@ -10,6 +10,7 @@ use Rattle.stream_report.specs.Laws as streams
 use Rattle.stream_maker.specs.Snapshots.{stream_text}
 use Rattle.monitor_run.specs.declared.ending.Refusal.{Refusal}
 use Rattle.monitor_run.specs.Drill.{IsDrill}
+use Rattle.monitor_run.specs.Containments.{IsContainment}
 use Rattle.monitor_run.specs.Leaves.{IsRewriting}
 use Rattle.monitor_run.specs.Outcome.{Outcome, HasOutcome}
 use Rattle.monitor_run.specs.Report.{watches, watching}
@@ -71,6 +72,10 @@ LimitIsExact = (task : Task) → streams.LimitIsExact Refusal (watching task)
 -- the rewritings of the same queries are one text
 abbrev pub OneRewriting : Type 0
 OneRewriting = (setting : Setting) (one other : List ℕ) → IsRewriting setting one → IsRewriting setting other → one ≡ other
+
+-- the containments of the same queries are one text
+abbrev pub OneContainment : Type 0
+OneContainment = (setting : Setting) (one other : List ℕ) → IsContainment setting one → IsContainment setting other → one ≡ other
 
 -- the drill of one seed and count is one text
 abbrev pub OneDrill : Type 0

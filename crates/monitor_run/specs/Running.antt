@@ -14,7 +14,8 @@ use Rattle.stream_report.specs.Outside.{SinkTold, Ports, Outside}
 use Rattle.monitor_run.specs.declared.ending.Refusal.{Refusal}
 use Rattle.monitor_run.specs.declared.ending.Status.{Status}
 use Rattle.monitor_run.specs.declared.jobs.Job.{Job}
-use Rattle.monitor_run.specs.declared.jobs.Job.TheVariants.{Watch, Rewrite}
+use Rattle.monitor_run.specs.declared.jobs.Job.TheVariants.{Watch, Rewrite, Contain}
+use Rattle.monitor_run.specs.Containments.{IsContainment, refuses_no_leaf}
 use Rattle.monitor_run.specs.Drill.{IsDrill}
 use Rattle.monitor_run.specs.Ends.{status_of, line_of}
 use Rattle.monitor_run.specs.Jobs.{FileNames, Asked, on_files, drill, asked_by}
@@ -46,6 +47,9 @@ JobEnds (Watch options) names ending before now =
 JobEnds Rewrite names ending before now =
     FilesStay before now
     × FilesEnd nothing_more names (λ setting. TextEnds (IsRewriting setting)) ending before now
+JobEnds Contain names ending before now =
+    FilesStay before now
+    × FilesEnd refuses_no_leaf names (λ setting. TextEnds (IsContainment setting)) ending before now
 
 -- what the ontology and the queries say that a drill makes
 abbrev pub MadeSay : Setting → Type 0

@@ -14,7 +14,7 @@ use Rattle.stream_report.specs.declared.ending.Ending.{Ending}
 use Rattle.stream_report.specs.declared.ending.Ending.TheVariants.{Refused, ReadFault, Memory}
 use Rattle.stream_report.specs.Outside.{FilesTold}
 use Rattle.monitor_run.specs.declared.ending.Refusal.{Refusal}
-use Rattle.monitor_run.specs.declared.ending.Refusal.TheVariants.{BadOntology, TooManyRewritings, BadQueries}
+use Rattle.monitor_run.specs.declared.ending.Refusal.TheVariants.{BadOntology, TooManyRewritings, BadQueries, NotALeaf}
 use Rattle.monitor_run.specs.Jobs.{FileNames}
 use Rattle.monitor_run.specs.Opening.{HasText, Is}
 use Rattle.monitor_run.specs.Reaching.{AreTooMany}
@@ -55,6 +55,7 @@ abbrev pub AreFaulty : (List ℕ → Type 0) → (List ℕ → Type 0) → Refus
 AreFaulty is_ontology is_queries (BadOntology line kind) = HasOntologyFault is_ontology line kind
 AreFaulty is_ontology is_queries (BadQueries line kind) = HasQueriesFault is_ontology is_queries line kind
 AreFaulty is_ontology is_queries TooManyRewritings = ⊥
+AreFaulty is_ontology is_queries (NotALeaf name) = ⊥
 
 -- ---- what a job takes of what they say
 

@@ -7,6 +7,7 @@ ghost use Rattle.monitor_run.specs.Ends.{line_of, status_of, status_of_refusal};
 ghost use Rattle.monitor_run.specs.Jobs.{asked_by, file_names};
 ghost use Rattle.monitor_run.specs.Running.{JobEnds, AskedEnds, RunEnds, Says, Ran};
 
+use crate::containment_files::contain_files;
 use crate::drilling::drill;
 use crate::ending::{Refusal, Status};
 use crate::error_line::error_line;
@@ -55,6 +56,7 @@ fn do_job<F: Files, S: Source, K: Sink>(
     match job {
         Job::Watch(options) => watch_files(alloc, names, options, files, input, out),
         Job::Rewrite => rewrite_files(alloc, names, files, out),
+        Job::Contain => contain_files(alloc, names, files, out),
     }
 }
 
@@ -90,6 +92,10 @@ fn perform<F: Files, S: Source, K: Sink>(
             let names = Names { ontology, queries };
             do_job(alloc, names, Job::Rewrite, files, input, out)
         }
+        Request::Contain { ontology, queries } => {
+            let names = Names { ontology, queries };
+            do_job(alloc, names, Job::Contain, files, input, out)
+        }
         Request::Drill { seed, count } => drill(alloc, seed, count, out),
     }
 }
@@ -120,6 +126,7 @@ fn refusal_status(refusal: Refusal) -> Status
         Refusal::BadOntology(_, _) => Status::BadOntology,
         Refusal::TooManyRewritings => Status::BadOntology,
         Refusal::BadQueries(_, _) => Status::BadQueries,
+        Refusal::NotALeaf(_) => Status::BadQueries,
     }
 }
 
@@ -147,7 +154,8 @@ fn say<E: Sink>(ending: Ending<Refusal>, err: &mut E)
 
 /// Runs the command that the words name: `watch ONTOLOGY QUERIES` reads the two files, watches
 /// `input` to its end and writes the report to `out`; `rewrite ONTOLOGY QUERIES` reads the two
-/// files and writes the rewritings of all leaves to `out`; `drill SEED COUNT` makes an ontology,
+/// files and writes the rewritings of all leaves to `out`; `contain ONTOLOGY QUERIES` reads the two
+/// files and writes to `out` which queries are contained in which others; `drill SEED COUNT` makes an ontology,
 /// queries and a stream, watches it, and writes to `out` what its last snapshot tells and the end
 /// of the report. What a status means is told on `err`.
 pub fn run<F: Files, S: Source, K: Sink, E: Sink>(

@@ -3,7 +3,7 @@ ghost use Rattle.std.specs.Prelude.{◌≡◌, ◌++◌, ◌+◌, ◌≤◌, len
 ghost use Rattle.arrayvec.specs.ArrayVec.{array_vec_len};
 ghost use Rattle.monitor_run.specs.Ends.{kind_text, query_kind_text, line_of};
 
-use crate::ending::Refusal;
+use crate::ending::{QueryName, Refusal};
 use arrayvec::ArrayVec;
 use itoa::Buffer;
 use ontology_reader::OntologyKind;
@@ -90,6 +90,16 @@ fn put_query_fault(out: &mut ArrayVec<u8, 256>, line: u64, kind: QueryKind)
     put(out, b"\n");
 }
 
+/// The line of a query that is no leaf.
+fn put_no_leaf(out: &mut ArrayVec<u8, 256>, name: QueryName)
+    requires { array_vec_len out.old ≡ 0 }
+    ensures { out.new.items ≡ out.old.items ++ line_of (Ending.Refused (Refusal.NotALeaf name)) }
+{
+    put(out, b"tom: queries: not-a-leaf ");
+    put(out, name.text());
+    put(out, b"\n");
+}
+
 /// The line of a refusal.
 fn put_refusal(out: &mut ArrayVec<u8, 256>, refusal: Refusal)
     requires { array_vec_len out.old ≡ 0 }
@@ -99,6 +109,7 @@ fn put_refusal(out: &mut ArrayVec<u8, 256>, refusal: Refusal)
         Refusal::BadOntology(line, kind) => put_fault(out, line, kind),
         Refusal::TooManyRewritings => put(out, b"tom: ontology: too-many-rewritings\n"),
         Refusal::BadQueries(line, kind) => put_query_fault(out, line, kind),
+        Refusal::NotALeaf(name) => put_no_leaf(out, name),
     }
 }
 

@@ -15,4 +15,6 @@ pub enum Job {
     Watch(Options),
     /// Writes the rewritings of all leaves of the queries.
     Rewrite,
+    /// Writes which queries are contained in which others.
+    Contain,
 }

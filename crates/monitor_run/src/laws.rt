@@ -2,6 +2,8 @@
 ghost use Rattle.monitor_run.specs.Laws.{Completeness, RewritingCompleteness, DrillCompleteness};
 ghost use Rattle.monitor_run.specs.Laws.{DrillLeaves, RewritingLeaves, UsageLeaves, RefusalLeaves};
 ghost use Rattle.monitor_run.specs.Laws.{LimitComesExactly};
+ghost use Rattle.monitor_run.specs.Laws.{ContainmentCompleteness, ContainmentLeaves};
+ghost use Rattle.monitor_run.specs.ReportLaws.{OneContainment};
 ghost use Rattle.monitor_run.specs.ReportLaws.{OneOutcome, OneLine, OneTold, ToldJoined, ToldParts};
 ghost use Rattle.monitor_run.specs.ReportLaws.{OneReport, OnePart, BeginsPart, BeginsWhole};
 ghost use Rattle.monitor_run.specs.ReportLaws.{CutShort, LimitIsExact, OneRewriting, OneDrill};
@@ -77,6 +79,23 @@ pub fn one_rewriting()
 /// count of faults rose, a rewriting is done with the whole text, or found no memory.
 pub fn rewriting_completeness()
     ensures { RewritingCompleteness }
+{}
+
+/// The containments of the same queries are one text.
+pub fn one_containment()
+    ensures { OneContainment }
+{}
+
+/// Where the words name files without a fault, whose queries are leaves that name all their answer
+/// variables and reach no more than they may, and no count of faults rose, a test of containment is
+/// done with the whole text, or found no memory.
+pub fn containment_completeness()
+    ensures { ContainmentCompleteness }
+{}
+
+/// A test of containment leaves the input as it was.
+pub fn containment_leaves()
+    ensures { ContainmentLeaves }
 {}
 
 /// The drill of one seed and count is one text.

@@ -1,6 +1,7 @@
 ghost use Rattle.std.specs.Prelude.{◌≤◌};
 
 mod answers;
+mod containing;
 mod refusals;
 mod rewriting;
 

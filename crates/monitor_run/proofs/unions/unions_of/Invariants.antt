@@ -1,0 +1,11 @@
+use Rattle.std.proofs.Common.{◌≤◌, take}
+use Rattle.monitor_core.specs.Opening.{all_leaves, ReachAll}
+use Rattle.monitor_run.specs.Containments.{AreUnionsOf}
+use Rattle.monitor_run.proofs.unions.unions_of.Given as goal
+
+abbrev pub invariant-loop-query : goal.invariant-loop-query
+invariant-loop-query l = record {
+  few : l.unions.reached ≤ l.room;
+  each : AreUnionsOf l.rewriter (take l.query-index l.queries) l.unions.each.items;
+  all : ReachAll l.rewriter (all_leaves (take l.query-index l.queries)) l.unions.reached;
+}
