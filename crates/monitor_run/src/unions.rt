@@ -4,7 +4,8 @@ ghost use Rattle.std.specs.List.{All};
 ghost use Rattle.perfect_ref.specs.Plain.{encoded};
 ghost use Rattle.progression.specs.Tables.{leaves_of};
 ghost use Rattle.consistency.specs.Prepared.{IsPreparedFor};
-ghost use Rattle.monitor_core.specs.Opening.{all_leaves, ReachAll, ReachMore};
+ghost use Rattle.perfect_ref.specs.Counting.{ReachAll, ReachMore};
+ghost use Rattle.monitor_core.specs.Opening.{all_leaves};
 ghost use Rattle.monitor_run.specs.Containments.{IsLeafQuery, IsUnionOf, AreUnionsOf};
 ghost use Rattle.monitor_run.specs.Reaching.{AreTooMany};
 

@@ -1,10 +1,10 @@
-use Rattle.std.proofs.Common.{◌≤◌, ◌+◌, ◌-◌, List, map, ◌∙◌, subst, arith}
+use Rattle.std.proofs.Common.{◌≤◌, ◌+◌, ◌-◌, List, ◌∙◌, subst, arith}
 use Rattle.dl_syntax.specs.declared.queries.Cq.{Cq}
 use Rattle.perfect_ref.specs.Plain.{Encoded, encoded}
-use Rattle.consistency.specs.Asking.{query_of}
-use Rattle.consistency.specs.Reached.{ReachMoreInAll}
-use Rattle.monitor_core.specs.Opening.{all_leaves, starts, ReachAll, ReachMore}
-use Rattle.monitor_core.proofs.Counting.{more_first, more_later, more_clashes, of_clashes, all_joined, no_more}
+use Rattle.perfect_ref.specs.Counting.{ReachAll, ReachMore}
+use Rattle.consistency.specs.Asking.{queries_of}
+use Rattle.monitor_core.specs.Opening.{all_leaves, starts}
+use Rattle.perfect_ref.proofs.Counting.{more_first, more_later, all_joined, no_more}
 use Rattle.monitor_run.proofs.Openings.{too_many, more_than_fit}
 use Rattle.monitor_run.proofs.unions.rewrite_all.Goals as goal
 
@@ -13,7 +13,7 @@ returns-in-Err-unions_of-clause-many c = λ is.
     let o = c.args.ontology.now in
     let queries = c.args.queries.now in
     let here : ReachMore c.in-Ok.rewriter (all_leaves queries) 1048576 = c.unions_of.ensures.many (c.in-Err-unions_of.is ∙ cc) in
-    too_many o queries (more_first (encoded o) (all_leaves queries) (map query_of o.clashes) 1048576
+    too_many o queries (more_first (encoded o) (all_leaves queries) (queries_of o.clashes) 1048576
     (subst (λ (e : Encoded). ReachMore e (all_leaves queries) 1048576) c.in-Ok.ensures here))
 
 pub returns-clause-many : goal.returns-clause-many
@@ -23,9 +23,8 @@ returns-clause-many c = λ is.
     let reached = c.in-Ok-unions_of.unions.reached in
     let all : ReachAll (encoded o) (all_leaves queries) reached =
     subst (λ (e : Encoded). ReachAll e (all_leaves queries) reached) c.in-Ok.ensures c.in-Ok-unions_of.ensures.all in
-    let more : ReachMoreInAll (encoded o) o.clashes (1048576 - reached) = c.prepare.ensures.many (cc) in
-    too_many o queries (more_later (encoded o) (all_leaves queries) (map query_of o.clashes) reached 1048576 all c.in-Ok-unions_of.ensures.few
-    (more_clashes (encoded o) o.clashes (1048576 - reached) more))
+    let more : ReachMore (encoded o) (queries_of o.clashes) (1048576 - reached) = c.prepare.ensures.many (cc) in
+    too_many o queries (more_later (encoded o) (all_leaves queries) (queries_of o.clashes) reached 1048576 all c.in-Ok-unions_of.ensures.few more)
 
 pub returns-in-Ok-prepare-clause-within : goal.returns-in-Ok-prepare-clause-within
 returns-in-Ok-prepare-clause-within c = λ many.
@@ -37,5 +36,5 @@ returns-in-Ok-prepare-clause-within c = λ many.
     let few : reached ≤ 1048576 = c.in-Ok-unions_of.ensures.few in
     let rest : c.in-Ok-prepare.clashes.reached ≤ 1048576 - reached = c.in-Ok-prepare.ensures.few in
     no_more (encoded o) (starts o queries) (reached + c.in-Ok-prepare.clashes.reached) 1048576
-    (all_joined (encoded o) (all_leaves queries) (map query_of o.clashes) reached c.in-Ok-prepare.clashes.reached all (of_clashes (encoded o) o.clashes c.in-Ok-prepare.clashes.reached c.in-Ok-prepare.ensures.count))
+    (all_joined (encoded o) (all_leaves queries) (queries_of o.clashes) reached c.in-Ok-prepare.clashes.reached all c.in-Ok-prepare.ensures.count)
     (omega arith) (more_than_fit o queries many)

@@ -5,8 +5,8 @@ use Rattle.tcq_syntax.specs.declared.nodes.Node.{Node}
 use Rattle.perfect_ref.specs.Plain.{HoldsOf, Reachable}
 use Rattle.perfect_ref.proofs.Reached.{if_ok_weaker}
 use Rattle.progression.specs.Tables.{leaves_of}
-use Rattle.monitor_core.specs.Opening.{ReachAll, ReachMore}
-use Rattle.monitor_core.proofs.Counting.{all_one, more_one}
+use Rattle.perfect_ref.specs.Counting.{ReachAll, ReachMore}
+use Rattle.perfect_ref.proofs.Counting.{all_one, more_one}
 use Rattle.monitor_run.proofs.LeafQueries.{leaf_nodes, leaf_there}
 use Rattle.monitor_run.proofs.unions.union_of.Goals as goal
 

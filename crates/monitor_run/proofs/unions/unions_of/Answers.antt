@@ -5,9 +5,10 @@ use Rattle.std.proofs.lemmas.Slice.Zip.{all_zipped_more}
 use Rattle.dl_syntax.specs.declared.queries.Cq.{Cq}
 use Rattle.tcq_syntax.specs.Tcq.{Tcq}
 use Rattle.progression.specs.Tables.{leaves_of}
-use Rattle.monitor_core.specs.Opening.{all_leaves, ReachAll, ReachMore}
+use Rattle.perfect_ref.specs.Counting.{ReachAll, ReachMore}
+use Rattle.monitor_core.specs.Opening.{all_leaves}
 use Rattle.monitor_core.proofs.Askable.{taken_more, all_leaves_parted, all_leaves_taken}
-use Rattle.monitor_core.proofs.Counting.{more_first, more_later, all_joined}
+use Rattle.perfect_ref.proofs.Counting.{more_first, more_later, all_joined}
 use Rattle.monitor_run.specs.Containments.{IsUnionOf, AreUnionsOf}
 use Rattle.monitor_run.proofs.unions.unions_of.Goals as goal
 

@@ -1,5 +1,6 @@
 use Rattle.std.proofs.Common.{◌≤◌, take}
-use Rattle.monitor_core.specs.Opening.{all_leaves, ReachAll}
+use Rattle.perfect_ref.specs.Counting.{ReachAll}
+use Rattle.monitor_core.specs.Opening.{all_leaves}
 use Rattle.monitor_run.specs.Containments.{AreUnionsOf}
 use Rattle.monitor_run.proofs.unions.unions_of.Given as goal
 
