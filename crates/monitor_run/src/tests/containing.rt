@@ -35,7 +35,7 @@ fn each_pair_is_told(rt: HostRuntime) -> Result<(), Fail> {
 fn the_first_query_that_is_no_leaf_is_refused(rt: HostRuntime) -> Result<(), Fail> {
     let alloc = rt.alloc();
     let queries: &[u8] =
-        b"query a (?x) = [Server(?x)] ; query b (?x,?y) = [Failed(?x)] ; query c () = next [Failed(s1)] ;";
+        b"query a (?x) = [Server(?x)] ; query b (?x ?y) = [Failed(?x)] ; query c () = next [Failed(s1)] ;";
     let outcome = ran(alloc, ["contain", "O", "Q"], ONTOLOGY, queries, whole(b""))?;
     assert_eq!(rt; outcome.status, Status::BadQueries);
     assert_eq!(rt;
