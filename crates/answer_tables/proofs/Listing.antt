@@ -1,9 +1,12 @@
 -- Tuples listed by their numbers.
-use Rattle.std.proofs.Common.{◌≡◌, ℕ, zero, ◌+◌, ◌-◌, ◌*◌, ◌/◌, ◌%◌, ◌^◌, ◌<◌, ◌≤◌, Bool, true, false, List, [], ◌∷◌, ◌++◌, refl, sym, ◌∙◌, ap, subst, arith, inl, inr}
+use Rattle.std.proofs.Common.{◌≡◌, ℕ, zero, ◌+◌, ◌-◌, ◌*◌, ◌/◌, ◌%◌, ◌^◌, ◌<◌, ◌≤◌, Bool, true}
+use Rattle.std.proofs.Common.{false, List, [], ◌∷◌, ◌++◌, refl, sym, ◌∙◌, ap, subst, arith, inl}
+use Rattle.std.proofs.Common.{inr}
 use Rattle.std.specs.Prelude.{◌⊎◌, ◌↔◌, IsTrue}
 use Rattle.std.specs.List.{Contains}
 use Rattle.std.proofs.lemmas.Bool.{cases_lt, true≢false}
-use Rattle.std.proofs.lemmas.List.Elements.{Contains-append_left, Contains-push, Contains-push_cases}
+use Rattle.std.proofs.lemmas.List.Elements.{Contains-append_left, Contains-push}
+use Rattle.std.proofs.lemmas.List.Elements.{Contains-push_cases}
 use Rattle.std.proofs.Math.Nat.{mul-le-mul_left, mod-lt}
 use Rattle.dl_syntax.specs.declared.names.IndId.{IndId}
 use Rattle.dl_syntax.specs.Rows.{Relation, IsAboveLast}
@@ -11,7 +14,7 @@ use Rattle.dl_syntax.proofs.RowLists.{IsRising-push}
 use Rattle.antichains.specs.Sets.{holds}
 use Rattle.answer_tables.specs.declared.run.Run.{Run}
 use Rattle.answer_tables.specs.Tuples.{IsTuple, number}
-use Rattle.answer_tables.specs.Table.{Chains, at, chain_at, view_of}
+use Rattle.answer_tables.specs.Table.{Antichains, at, antichain_at, view_of}
 use Rattle.answer_tables.specs.Holding.{IsListed, Listed}
 use Rattle.answer_tables.proofs.Numbers.{tuple_below}
 use Rattle.answer_tables.proofs.Orders.{below_by_number, number_tells, above_last}
@@ -26,142 +29,240 @@ pub record Digit (slots places rest w : ℕ) : Type 0 where
   pub whole : w * (rest / w) + rest % w ≡ rest
   pub power : slots ^ places ≡ w * slots
 
-pub Digit-of : (slots places rest w : ℕ) → w ≡ slots ^ (places - 1) → 0 < places → rest < slots ^ places → Digit slots places rest w
+pub Digit-of : (slots places rest w : ℕ) → w ≡ slots ^ (places - 1) → 0 < places
+    → rest < slots ^ places → Digit slots places rest w
 Digit-of slots places rest w is some below = go (cases_lt zero w)
   where
     power : slots ^ places ≡ w * slots
     power = power_split slots places some ∙ ap (λ (p : ℕ). p * slots) (sym is)
 
     go : (zero < w) ⊎ (w ≤ zero) → Digit slots places rest w
-    go (inr none) = absurd (let no : w * slots ≡ 0 * slots = ap (λ (p : ℕ). p * slots) (let e : w ≡ 0 = omega (arith, none) in e) in omega (arith, below, power, no))
+    go (inr none) = absurd (let no : w * slots ≡ 0 * slots =
+        ap (λ (p : ℕ). p * slots) (let e : w ≡ 0 = omega (arith, none) in e) in
+        omega (arith, below, power, no))
     go (inl more) =
         let whole : w * (rest / w) + rest % w ≡ rest = omega (arith, more) in
         record {
           some = more;
           digit = elim (cases_lt (rest / w) slots) [
             | inl less ↦ less
-            | inr much ↦ let far : w * slots ≤ w * (rest / w) = mul-le-mul_left w much in absurd (omega (arith, below, power, far, whole))
+            | inr much ↦ let far : w * slots ≤ w * (rest / w) = mul-le-mul_left w much in
+                absurd (omega (arith, below, power, far, whole))
           ];
           within = mod-lt rest more;
           whole = whole;
           power = power;
         }
 
-pub above_listed : (slots rank : ℕ) (rows : Relation) (tuple : List IndId) → IsListed slots rows rank → IsTuple slots rows.arity tuple → number slots tuple ≡ rank → IsAboveLast tuple rows.rows
+pub above_listed : (slots rank : ℕ) (rows : Relation) (tuple : List IndId)
+    → IsListed slots rows rank → IsTuple slots rows.arity tuple → number slots tuple ≡ rank
+    → IsAboveLast tuple rows.rows
 above_listed slots rank rows tuple listed is num =
-    above_last rows.rows tuple (λ x there. let one = listed.tuples x there in below_by_number slots rows.arity x tuple one.0 is (let less = one.1 in omega (arith, less, num)))
+    above_last rows.rows tuple (λ x there. let one = listed.tuples x there in
+    below_by_number slots rows.arity x tuple one.0 is (let less = one.1 in
+    omega (arith, less, num)))
 
 -- nothing more
-pub Listed-none : (slots start : ℕ) (rows : Relation) → IsListed slots rows start → Listed slots rows start start rows
+pub Listed-none : (slots start : ℕ) (rows : Relation) → IsListed slots rows start
+    → Listed slots rows start start rows
 Listed-none slots start rows listed = record {
   arity = refl;
   listed = listed;
-  exact = λ tuple is. (λ there. inl there, λ either. elim either [ inl there ↦ there | inr here ↦ absurd (let from = here.0 in let below = here.1 in omega (arith, from, below)) ]);
+  exact = λ tuple is. (
+    λ there. inl there,
+    λ either. elim either [
+      | inl there ↦ there
+      | inr here ↦
+          absurd (let from = here.0 in let below = here.1 in omega (arith, from, below))
+    ],
+  );
 }
 
 -- one more tuple
-pub Listed-push : (slots rank : ℕ) (rows new : Relation) (tuple : List IndId) → IsListed slots rows rank → IsTuple slots rows.arity tuple → number slots tuple ≡ rank → new ≡ record { arity = rows.arity; rows = rows.rows ++ tuple ∷ [] } → Listed slots rows rank (rank + 1) new
-Listed-push slots rank rows new tuple listed is num same = subst (Listed slots rows rank (rank + 1)) (sym same) (record {
-  arity = refl;
-  listed = record {
-    rising = IsRising-push rows.rows tuple listed.rising (above_listed slots rank rows tuple listed is num);
-    tuples = λ x there. tuples x (Contains-push_cases rows.rows tuple x there);
-  };
-  exact = λ x tup. (λ there. to x (Contains-push_cases rows.rows tuple x there), λ either. from x tup either);
-})
+pub Listed-push : (slots rank : ℕ) (rows new : Relation) (tuple : List IndId)
+    → IsListed slots rows rank → IsTuple slots rows.arity tuple → number slots tuple ≡ rank
+    → new ≡ record { arity = rows.arity; rows = rows.rows ++ tuple ∷ [] }
+    → Listed slots rows rank (rank + 1) new
+Listed-push slots rank rows new tuple listed is num same =
+    subst (Listed slots rows rank (rank + 1)) (sym same) (record {
+      arity = refl;
+      listed = record {
+        rising = IsRising-push rows.rows tuple listed.rising
+            (above_listed slots rank rows tuple listed is num);
+        tuples = λ x there. tuples x (Contains-push_cases rows.rows tuple x there);
+      };
+      exact = λ x tup. (
+        λ there. to x (Contains-push_cases rows.rows tuple x there),
+        λ either.
+            from x tup either,
+      );
+    })
   where
-    tuples : (x : List IndId) → Contains rows.rows x ⊎ (tuple ≡ x) → IsTuple slots rows.arity x × (number slots x < rank + 1)
-    tuples x (inl early) = let one = listed.tuples x early in (one.0, let less = one.1 in omega (arith, less))
-    tuples x (inr equal) = (subst (IsTuple slots rows.arity) equal is, let e = ap (number slots) equal in omega (arith, e, num))
+    tuples : (x : List IndId) → Contains rows.rows x ⊎ (tuple ≡ x)
+        → IsTuple slots rows.arity x × (number slots x < rank + 1)
+    tuples x (inl early) = let one = listed.tuples x early in
+        (one.0, let less = one.1 in omega (arith, less))
+    tuples x (inr equal) = (
+      subst (IsTuple slots rows.arity) equal is,
+      let e =
+          ap (number slots) equal in omega (arith, e, num),
+    )
 
-    to : (x : List IndId) → Contains rows.rows x ⊎ (tuple ≡ x) → Contains rows.rows x ⊎ (rank ≤ number slots x) × (number slots x < rank + 1)
+    to : (x : List IndId) → Contains rows.rows x ⊎ (tuple ≡ x)
+        → Contains rows.rows x ⊎ (rank ≤ number slots x) × (number slots x < rank + 1)
     to x (inl early) = inl early
-    to x (inr equal) = let e = ap (number slots) equal in inr (omega (arith, e, num), omega (arith, e, num))
+    to x (inr equal) = let e = ap (number slots) equal in
+        inr (omega (arith, e, num), omega (arith, e, num))
 
-    from : (x : List IndId) → IsTuple slots rows.arity x → Contains rows.rows x ⊎ (rank ≤ number slots x) × (number slots x < rank + 1) → Contains (rows.rows ++ tuple ∷ []) x
+    from : (x : List IndId) → IsTuple slots rows.arity x
+        → Contains rows.rows x ⊎ (rank ≤ number slots x) × (number slots x < rank + 1)
+        → Contains (rows.rows ++ tuple ∷ []) x
     from x tup (inl early) = Contains-append_left rows.rows (tuple ∷ []) x early
-    from x tup (inr (above, below)) = subst (Contains (rows.rows ++ tuple ∷ [])) (number_tells slots rows.arity tuple x is tup (omega (arith, above, below, num))) (Contains-push rows.rows tuple)
+    from x tup (inr (above, below)) =
+        subst (Contains (rows.rows ++ tuple ∷ []))
+        (number_tells slots rows.arity tuple x is tup (omega (arith, above, below, num)))
+        (Contains-push rows.rows tuple)
 
 -- more after those
-pub Listed-more : (slots start middle end : ℕ) (rows mid new : Relation) → start ≤ middle → middle ≤ end → Listed slots rows start middle mid → Listed slots mid middle end new → Listed slots rows start end new
+pub Listed-more : (slots start middle end : ℕ) (rows mid new : Relation) → start ≤ middle
+    → middle ≤ end → Listed slots rows start middle mid → Listed slots mid middle end new
+    → Listed slots rows start end new
 Listed-more slots start middle end rows mid new up on one other = record {
   arity = other.arity ∙ one.arity;
   listed = other.listed;
-  exact = λ x tup. (λ there. to x tup (((other.exact x (moved x tup)).0) there), λ either. (other.exact x (moved x tup)).1 (from x tup either));
+  exact = λ x tup. (
+    λ there. to x tup (((other.exact x (moved x tup)).0) there),
+    λ either.
+        (other.exact x (moved x tup)).1 (from x tup either),
+  );
 }
   where
     moved : (x : List IndId) → IsTuple slots rows.arity x → IsTuple slots mid.arity x
     moved x tup = subst (λ (k : ℕ). IsTuple slots k x) (sym one.arity) tup
 
-    to : (x : List IndId) → IsTuple slots rows.arity x → Contains mid.rows x ⊎ (middle ≤ number slots x) × (number slots x < end) → Contains rows.rows x ⊎ (start ≤ number slots x) × (number slots x < end)
-    to x tup (inl early) = elim ((one.exact x tup).0 early) [ inl before ↦ inl before | inr here ↦ inr (here.0, (let less = here.1 in omega (arith, less, on))) ]
+    to : (x : List IndId) → IsTuple slots rows.arity x
+        → Contains mid.rows x ⊎ (middle ≤ number slots x) × (number slots x < end)
+        → Contains rows.rows x ⊎ (start ≤ number slots x) × (number slots x < end)
+    to x tup (inl early) = elim ((one.exact x tup).0 early) [
+      | inl before ↦ inl before
+      | inr here ↦
+          inr (here.0, (let less = here.1 in omega (arith, less, on)))
+    ]
     to x tup (inr (above, below)) = inr (omega (arith, above, up), below)
 
-    from : (x : List IndId) → IsTuple slots rows.arity x → Contains rows.rows x ⊎ (start ≤ number slots x) × (number slots x < end) → Contains mid.rows x ⊎ (middle ≤ number slots x) × (number slots x < end)
+    from : (x : List IndId) → IsTuple slots rows.arity x
+        → Contains rows.rows x ⊎ (start ≤ number slots x) × (number slots x < end)
+        → Contains mid.rows x ⊎ (middle ≤ number slots x) × (number slots x < end)
     from x tup (inl early) = inl ((one.exact x tup).1 (inl early))
-    from x tup (inr (above, below)) = elim (cases_lt (number slots x) middle) [ inl less ↦ inl ((one.exact x tup).1 (inr (above, less))) | inr more ↦ inr (more, below) ]
+    from x tup (inr (above, below)) = elim (cases_lt (number slots x) middle) [
+      | inl less ↦
+          inl ((one.exact x tup).1 (inr (above, less)))
+      | inr more ↦ inr (more, below)
+    ]
 
 -- the tuples of lower numbers at which a test holds
 pub record Gathers (slots arity : ℕ) (test : ℕ → Bool) (rows : Relation) (start : ℕ) : Type 0 where
   pub arity_is : rows.arity ≡ arity
   pub listed : IsListed slots rows start
-  pub exact : (tuple : List IndId) → IsTuple slots arity tuple → number slots tuple < start → Contains rows.rows tuple ↔ IsTrue (test (number slots tuple))
+  pub exact : (tuple : List IndId) → IsTuple slots arity tuple → number slots tuple < start
+      → Contains rows.rows tuple ↔ IsTrue (test (number slots tuple))
 
-pub Gathers-start : (slots arity : ℕ) (test : ℕ → Bool) (rows : Relation) → rows ≡ record { arity = arity; rows = [] } → Gathers slots arity test rows 0
-Gathers-start slots arity test rows none = subst (λ (r : Relation). Gathers slots arity test r 0) (sym none) (record {
-  arity_is = refl;
-  listed = record { rising = λ i j d before within. absurd (omega (arith, within)); tuples = λ x there. absurd (let l = there.1 in omega (arith, l)) };
-  exact = λ x tup below. absurd (omega (arith, below));
-})
+pub Gathers-start : (slots arity : ℕ) (test : ℕ → Bool) (rows : Relation)
+    → rows ≡ record { arity = arity; rows = [] } → Gathers slots arity test rows 0
+Gathers-start slots arity test rows none =
+    subst (λ (r : Relation). Gathers slots arity test r 0) (sym none) (record {
+      arity_is = refl;
+      listed = record {
+        rising = λ i j d before within. absurd (omega (arith, within));
+        tuples =
+            λ x there. absurd (let l = there.1 in omega (arith, l));
+      };
+      exact = λ x tup below. absurd (omega (arith, below));
+    })
 
 -- past tuples at which it holds, and past those at which it doesn't
-pub Gathers-held : (slots arity : ℕ) (test : ℕ → Bool) (rows new : Relation) (start end : ℕ) → Gathers slots arity test rows start → Listed slots rows start end new → ((n : ℕ) → start ≤ n → n < end → test n ≡ true) → Gathers slots arity test new end
+pub Gathers-held : (slots arity : ℕ) (test : ℕ → Bool) (rows new : Relation) (start end : ℕ)
+    → Gathers slots arity test rows start → Listed slots rows start end new
+    → ((n : ℕ) → start ≤ n → n < end → test n ≡ true) → Gathers slots arity test new end
 Gathers-held slots arity test rows new start end gathers listed each = record {
   arity_is = listed.arity ∙ gathers.arity_is;
   listed = listed.listed;
   exact = λ x tup below. (
-    λ there. to x tup below (cases_lt (number slots x) start) ((listed.exact x (moved x tup)).0 there),
-    λ holds. (listed.exact x (moved x tup)).1 (from x tup below holds (cases_lt (number slots x) start)),
+    λ there. to x tup below (cases_lt (number slots x) start)
+        ((listed.exact x (moved x tup)).0 there),
+    λ holds. (listed.exact x (moved x tup)).1
+        (from x tup below holds (cases_lt (number slots x) start)),
   );
 }
   where
     moved : (x : List IndId) → IsTuple slots arity x → IsTuple slots rows.arity x
     moved x tup = subst (λ (k : ℕ). IsTuple slots k x) (sym gathers.arity_is) tup
 
-    to : (x : List IndId) → IsTuple slots arity x → number slots x < end → (number slots x < start) ⊎ (start ≤ number slots x) → Contains rows.rows x ⊎ (start ≤ number slots x) × (number slots x < end) → IsTrue (test (number slots x))
+    to : (x : List IndId) → IsTuple slots arity x → number slots x < end
+        → (number slots x < start) ⊎ (start ≤ number slots x)
+        → Contains rows.rows x ⊎ (start ≤ number slots x) × (number slots x < end)
+        → IsTrue (test (number slots x))
     to x tup below (inr late) either = each (number slots x) late below
     to x tup below (inl early) (inl there) = (gathers.exact x tup early).0 there
     to x tup below (inl early) (inr here) = absurd (let from = here.0 in omega (arith, early, from))
 
-    from : (x : List IndId) → IsTuple slots arity x → number slots x < end → IsTrue (test (number slots x)) → (number slots x < start) ⊎ (start ≤ number slots x) → Contains rows.rows x ⊎ (start ≤ number slots x) × (number slots x < end)
+    from : (x : List IndId) → IsTuple slots arity x → number slots x < end
+        → IsTrue (test (number slots x)) → (number slots x < start) ⊎ (start ≤ number slots x)
+        → Contains rows.rows x ⊎ (start ≤ number slots x) × (number slots x < end)
     from x tup below holds (inl early) = inl ((gathers.exact x tup early).1 holds)
     from x tup below holds (inr late) = inr (late, below)
 
-pub Gathers-passed : (slots arity : ℕ) (test : ℕ → Bool) (rows : Relation) (start end : ℕ) → Gathers slots arity test rows start → start ≤ end → ((n : ℕ) → start ≤ n → n < end → test n ≡ false) → Gathers slots arity test rows end
+pub Gathers-passed : (slots arity : ℕ) (test : ℕ → Bool) (rows : Relation) (start end : ℕ)
+    → Gathers slots arity test rows start → start ≤ end
+    → ((n : ℕ) → start ≤ n → n < end → test n ≡ false) → Gathers slots arity test rows end
 Gathers-passed slots arity test rows start end gathers up each = record {
   arity_is = gathers.arity_is;
-  listed = record { rising = gathers.listed.rising; tuples = λ x there. let one = gathers.listed.tuples x there in (one.0, let less = one.1 in omega (arith, less, up)) };
+  listed = record {
+    rising = gathers.listed.rising;
+    tuples = λ x there. let one =
+        gathers.listed.tuples x there in (one.0, let less = one.1 in omega (arith, less, up));
+  };
   exact = λ x tup below. exact x tup below (cases_lt (number slots x) start);
 }
   where
-    exact : (x : List IndId) → IsTuple slots arity x → number slots x < end → (number slots x < start) ⊎ (start ≤ number slots x) → Contains rows.rows x ↔ IsTrue (test (number slots x))
+    exact : (x : List IndId) → IsTuple slots arity x → number slots x < end
+        → (number slots x < start) ⊎ (start ≤ number slots x)
+        → Contains rows.rows x ↔ IsTrue (test (number slots x))
     exact x tup below (inl early) = gathers.exact x tup early
     exact x tup below (inr late) = (
-      λ there. let one = gathers.listed.tuples x there in absurd (let less = one.1 in omega (arith, less, late)),
+      λ there. let one = gathers.listed.tuples x there in
+          absurd (let less = one.1 in omega (arith, less, late)),
       λ holds. absurd (true≢false (sym holds ∙ each (number slots x) late below)),
     )
 
--- the rows are exactly the tuples whose chain holds
-pub Gathers-exact : (slots arity : ℕ) (links : List (List ℕ)) (runs : List Run) (v : Chains) (set : ℕ) (rows : Relation) (start : ℕ) → view_of slots arity links runs ≡ v → start ≡ slots ^ arity → Gathers slots arity (λ n. holds (chain_at links runs n) set) rows start → (tuple : List IndId) → Contains rows.rows tuple ↔ IsTuple v.slots v.arity tuple × IsTrue (holds (at v tuple) set)
+-- the rows are exactly the tuples whose antichain holds
+pub Gathers-exact : (slots arity : ℕ) (links : List (List ℕ)) (runs : List Run) (v : Antichains)
+    (set : ℕ) (rows : Relation) (start : ℕ) → view_of slots arity links runs ≡ v
+    → start ≡ slots ^ arity → Gathers slots arity (λ n.
+    holds (antichain_at links runs n) set) rows start → (tuple : List IndId)
+    → Contains rows.rows tuple ↔ IsTuple v.slots v.arity tuple × IsTrue (holds (at v tuple) set)
 Gathers-exact slots arity links runs v set rows start view all gathers =
-    subst (λ (w : Chains). (tuple : List IndId) → Contains rows.rows tuple ↔ IsTuple w.slots w.arity tuple × IsTrue (holds (at w tuple) set)) view (λ tuple. (to tuple, λ (is, held). from tuple is held))
+    subst (λ (w : Antichains). (tuple : List IndId)
+    → Contains rows.rows tuple ↔ IsTuple w.slots w.arity tuple
+    × IsTrue (holds (at w tuple) set)) view (λ tuple.
+    (to tuple, λ (is, held). from tuple is held))
   where
-    to : (tuple : List IndId) → Contains rows.rows tuple → IsTuple slots arity tuple × IsTrue (holds (at (view_of slots arity links runs) tuple) set)
+    to : (tuple : List IndId) → Contains rows.rows tuple
+        → IsTuple slots arity tuple × IsTrue (holds (at (view_of slots arity links runs) tuple) set)
     to tuple there =
         let one = gathers.listed.tuples tuple there in
-        let is : IsTuple slots arity tuple = subst (λ (k : ℕ). IsTuple slots k tuple) gathers.arity_is one.0 in
-        (is, subst (λ (chain : List ℕ). IsTrue (holds chain set)) (sym (at_view slots arity links runs tuple is)) ((gathers.exact tuple is one.1).0 there))
+        let is : IsTuple slots arity tuple =
+        subst (λ (k : ℕ). IsTuple slots k tuple) gathers.arity_is one.0 in (
+          is,
+          subst (λ (antichain : List ℕ).
+              IsTrue (holds antichain set)) (sym (at_view slots arity links runs tuple is))
+              ((gathers.exact tuple is one.1).0 there),
+        )
 
-    from : (tuple : List IndId) → IsTuple slots arity tuple → IsTrue (holds (at (view_of slots arity links runs) tuple) set) → Contains rows.rows tuple
+    from : (tuple : List IndId) → IsTuple slots arity tuple
+        → IsTrue (holds (at (view_of slots arity links runs) tuple) set) → Contains rows.rows tuple
     from tuple is held =
-        (gathers.exact tuple is (let below = tuple_below slots arity tuple is in omega (arith, below, all))).1 (subst (λ (chain : List ℕ). IsTrue (holds chain set)) (at_view slots arity links runs tuple is) held)
+        (gathers.exact tuple is (let below = tuple_below slots arity tuple is in
+        omega (arith, below, all))).1
+        (subst (λ (antichain : List ℕ).
+        IsTrue (holds antichain set)) (at_view slots arity links runs tuple is) held)

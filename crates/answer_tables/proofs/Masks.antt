@@ -6,7 +6,8 @@ use Rattle.answer_tables.specs.declared.run.Run.{Run}
 use Rattle.answer_tables.specs.Runs.{link_at, end_from, RiseFrom, Extended}
 use Rattle.answer_tables.specs.Masking.{Copied, IsMasked}
 
-pub Copied-start : (from old : List Run) (start : ℕ) → RiseFrom 0 old → end_from 0 old ≡ start → Copied from old start old
+pub Copied-start : (from old : List Run) (start : ℕ) → RiseFrom 0 old → end_from 0 old ≡ start
+    → Copied from old start old
 Copied-start from old start rise ends = record {
   rise = rise;
   ends = ends;
@@ -15,17 +16,23 @@ Copied-start from old start rise ends = record {
 }
 
 -- one more run of the others' numbers
-pub Copied-more : (from old runs new : List Run) (start end number : ℕ) → Copied from old start runs → end_from 0 old ≤ start → Extended runs (record { end = end; link = number }) new → ((n : ℕ) → start ≤ n → n < end → link_at from n ≡ number) → Copied from old end new
+pub Copied-more : (from old runs new : List Run) (start end number : ℕ) → Copied from old start runs
+    → end_from 0 old ≤ start → Extended runs (record { end = end; link = number }) new
+    → ((n : ℕ) → start ≤ n → n < end → link_at from n ≡ number) → Copied from old end new
 Copied-more from old runs new start end number copied order extended same = record {
   rise = extended.rise;
   ends = extended.ends;
-  before = λ n below. extended.before n (omega (arith, below, order, copied.ends)) ∙ copied.before n below;
+  before = λ n below. extended.before n (omega (arith, below, order, copied.ends)) ∙ copied.before n
+      below;
   since = λ n above below. since n above below (cases_lt n start);
 }
   where
-    since : (n : ℕ) → end_from 0 old ≤ n → n < end → (n < start) ⊎ (start ≤ n) → link_at new n ≡ link_at from n
-    since n above below (inl early) = extended.before n (omega (arith, early, copied.ends)) ∙ copied.since n above early
-    since n above below (inr late) = extended.since n (omega (arith, late, copied.ends)) below ∙ sym (same n late below)
+    since : (n : ℕ) → end_from 0 old ≤ n → n < end → (n < start) ⊎ (start ≤ n)
+        → link_at new n ≡ link_at from n
+    since n above below (inl early) =
+        extended.before n (omega (arith, early, copied.ends)) ∙ copied.since n above early
+    since n above below (inr late) =
+        extended.since n (omega (arith, late, copied.ends)) below ∙ sym (same n late below)
 
 pub IsMasked-start : (a b runs : List Run) (usual : ℕ) → runs ≡ [] → IsMasked a b usual 0 runs
 IsMasked-start a b runs usual none = subst (IsMasked a b usual 0) (sym none) (record {
@@ -35,9 +42,12 @@ IsMasked-start a b runs usual none = subst (IsMasked a b usual 0) (sym none) (re
   shown = λ n below. absurd (omega (arith, below));
 })
 
-module _ (a b runs new : List Run) (usual start end number : ℕ) (masked : IsMasked a b usual start runs) (here : (n : ℕ) → start ≤ n → n < end → link_at b n ≡ number) where
+module _ (a b runs new : List Run) (usual start end number : ℕ)
+    (masked : IsMasked a b usual start runs) (here : (n : ℕ) → start ≤ n → n < end
+    → link_at b n ≡ number) where
   -- past a run with the usual number
-  pub IsMasked-hidden : Extended runs (record { end = end; link = 0 }) new → number ≡ usual → IsMasked a b usual end new
+  pub IsMasked-hidden : Extended runs (record { end = end; link = 0 }) new → number ≡ usual
+      → IsMasked a b usual end new
   IsMasked-hidden extended is = record {
     rise = extended.rise;
     ends = extended.ends;
@@ -45,12 +55,17 @@ module _ (a b runs new : List Run) (usual start end number : ℕ) (masked : IsMa
     shown = λ n below other. shown n below other (cases_lt n start);
   }
     where
-      hidden : (n : ℕ) → n < end → link_at b n ≡ usual → (n < start) ⊎ (start ≤ n) → link_at new n ≡ 0
-      hidden n below usual_there (inl early) = extended.before n (omega (arith, early, masked.ends)) ∙ masked.hidden n early usual_there
-      hidden n below usual_there (inr late) = extended.since n (omega (arith, late, masked.ends)) below
+      hidden : (n : ℕ) → n < end → link_at b n ≡ usual → (n < start) ⊎ (start ≤ n)
+          → link_at new n ≡ 0
+      hidden n below usual_there (inl early) =
+          extended.before n (omega (arith, early, masked.ends)) ∙ masked.hidden n early usual_there
+      hidden n below usual_there (inr late) =
+          extended.since n (omega (arith, late, masked.ends)) below
 
-      shown : (n : ℕ) → n < end → link_at b n ≢ usual → (n < start) ⊎ (start ≤ n) → link_at new n ≡ link_at a n
-      shown n below other (inl early) = extended.before n (omega (arith, early, masked.ends)) ∙ masked.shown n early other
+      shown : (n : ℕ) → n < end → link_at b n ≢ usual → (n < start) ⊎ (start ≤ n)
+          → link_at new n ≡ link_at a n
+      shown n below other (inl early) =
+          extended.before n (omega (arith, early, masked.ends)) ∙ masked.shown n early other
       shown n below other (inr late) = absurd (other (here n late below ∙ is))
 
   -- past a run with another number
@@ -62,10 +77,15 @@ module _ (a b runs new : List Run) (usual start end number : ℕ) (masked : IsMa
     shown = λ n below other. shown n below other (cases_lt n start);
   }
     where
-      hidden : (n : ℕ) → n < end → link_at b n ≡ usual → (n < start) ⊎ (start ≤ n) → link_at new n ≡ 0
-      hidden n below usual_there (inl early) = copied.before n (omega (arith, early, masked.ends)) ∙ masked.hidden n early usual_there
-      hidden n below usual_there (inr late) = absurd (differs (sym (here n late below) ∙ usual_there))
+      hidden : (n : ℕ) → n < end → link_at b n ≡ usual → (n < start) ⊎ (start ≤ n)
+          → link_at new n ≡ 0
+      hidden n below usual_there (inl early) =
+          copied.before n (omega (arith, early, masked.ends)) ∙ masked.hidden n early usual_there
+      hidden n below usual_there (inr late) =
+          absurd (differs (sym (here n late below) ∙ usual_there))
 
-      shown : (n : ℕ) → n < end → link_at b n ≢ usual → (n < start) ⊎ (start ≤ n) → link_at new n ≡ link_at a n
-      shown n below other (inl early) = copied.before n (omega (arith, early, masked.ends)) ∙ masked.shown n early other
+      shown : (n : ℕ) → n < end → link_at b n ≢ usual → (n < start) ⊎ (start ≤ n)
+          → link_at new n ≡ link_at a n
+      shown n below other (inl early) =
+          copied.before n (omega (arith, early, masked.ends)) ∙ masked.shown n early other
       shown n below other (inr late) = copied.since n (omega (arith, late, masked.ends)) below

@@ -9,4 +9,6 @@ HasCode width joint code = (joint.first * width + joint.second ≡ code) × (joi
 
 -- each code with a byte below 255 is that of the joint with this number
 abbrev pub IsCoding : List Joint → List ℕ → ℕ → Type 0
-IsCoding joints codes width = (code : ℕ) → code < length codes → slice_index codes code < 255 → (slice_index codes code < length joints) × HasCode width (joint_at joints (slice_index codes code)) code
+IsCoding joints codes width = (code : ℕ) → code < length codes → slice_index codes code < 255
+    → (slice_index codes code < length joints)
+    × HasCode width (joint_at joints (slice_index codes code)) code

@@ -1,8 +1,9 @@
 -- Laws of tables.
 use Rattle.std.specs.Prelude.{ℕ, ◌^◌, ◌≤◌, List, All, length}
 use Rattle.formula_store.specs.Interned.{AreDistinct}
-use Rattle.answer_tables.specs.Table.{Chains, HasChain}
+use Rattle.answer_tables.specs.Table.{Antichains, HasAntichain}
 
--- distinct chains of a table's tuples are at most as many as the tuples
-abbrev pub FewChains : Type 0
-FewChains = (table : Chains) (chains : List (List ℕ)) → AreDistinct chains → All (HasChain table) chains → length chains ≤ table.slots ^ table.arity
+-- distinct antichains of a table's tuples are at most as many as the tuples
+abbrev pub FewAntichains : Type 0
+FewAntichains = (table : Antichains) (antichains : List (List ℕ)) → AreDistinct antichains
+    → All (HasAntichain table) antichains → length antichains ≤ table.slots ^ table.arity

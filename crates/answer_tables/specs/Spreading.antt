@@ -1,5 +1,6 @@
 -- The ranks of a table told by weighed digits.
-use Rattle.std.specs.Prelude.{◌≡◌, ℕ, zero, suc, ◌+◌, ◌*◌, ◌^◌, ◌<◌, ◌-◌, min, map, List, [], ◌∷◌, length}
+use Rattle.std.specs.Prelude.{◌≡◌, ℕ, zero, suc, ◌+◌, ◌*◌, ◌^◌, ◌<◌, ◌-◌, min, map, List, [], ◌∷◌}
+use Rattle.std.specs.Prelude.{length}
 use Rattle.dl_syntax.specs.declared.names.IndId.{IndId}
 use Rattle.answer_tables.specs.declared.run.Run.{Run}
 use Rattle.answer_tables.specs.Runs.{link_at, end_from, RiseFrom, NamedBelow}
@@ -17,11 +18,14 @@ reach limit [] = 0
 reach limit (w ∷ ws) = w * limit + reach limit ws
 
 -- the ranks from one on have the numbers of the runs at the weighed sums, from one on
-pub record Spread (runs : List Run) (weights : List ℕ) (slots limit old start : ℕ) (before after : List Run) : Type 0 where
+pub record Spread (runs : List Run) (weights : List ℕ) (slots limit old start : ℕ)
+    (before after : List Run) : Type 0 where
   pub rise : RiseFrom 0 after
   pub ends : end_from 0 after ≡ start + slots ^ length weights
   pub kept : (n : ℕ) → n < start → link_at after n ≡ link_at before n
-  pub each : (tuple : List IndId) → IsTuple slots (length weights) tuple → link_at after (start + number slots tuple) ≡ link_at runs (old + weighed limit weights tuple)
+  pub each : (tuple : List IndId) → IsTuple slots (length weights) tuple
+      → link_at after (start + number slots tuple)
+      ≡ link_at runs (old + weighed limit weights tuple)
   pub named : (bound : ℕ) → NamedBelow bound runs → NamedBelow bound before → NamedBelow bound after
 
 -- the weights of so many digits in a base

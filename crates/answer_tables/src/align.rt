@@ -65,7 +65,8 @@ impl Numbering {
         }
     }
 
-    /// The number of a joint with the same numbers, which is the joint's own where none is remembered.
+    /// The number of a joint with the same numbers, which is the joint's own where none is
+    /// remembered.
     fn number(&mut self, joint: Joint) -> Result<usize, Memory>
         ensures { IfOk result (Numbered self.old.joints.items joint self.new.joints.items) }
     {
@@ -93,7 +94,9 @@ impl Numbering {
 
 /// Whether the joint at the place has the same numbers.
 fn has_numbers(joints: &[Joint], place: usize, joint: Joint) -> bool
-    ensures { result ≡ true → (place < length joints.now) × ((joint_at joints.now place).first ≡ joint.first) × ((joint_at joints.now place).second ≡ joint.second) }
+    ensures { result ≡ true → (place < length joints.now)
+        × ((joint_at joints.now place).first ≡ joint.first)
+        × ((joint_at joints.now place).second ≡ joint.second) }
 {
     place < joints.len()
         && joints[place].first == joint.first
@@ -147,7 +150,9 @@ fn align_bytes(alloc: Global, a: &[u8], b: &[u8], coding: Coding) -> Result<Opti
     requires many { length a.now ≡ length b.now }
     requires fresh { coding.joints.items ≡ [] }
     requires coding { IsCoding coding.joints.items coding.codes.items coding.width }
-    ensures { IfOk result (λ found. IfSome found (λ z. IsAligned (unit_runs 0 a.now) (unit_runs 0 b.now) z.ranks z.joints.items)) }
+    ensures { IfOk result (λ found.
+        IfSome found (λ z. IsAligned (unit_runs 0 a.now) (unit_runs 0 b.now) z.ranks
+        z.joints.items)) }
 {
     let mut coding = coding;
     let mut bytes = Vec::with_capacity(alloc, a.len())?;
@@ -171,7 +176,8 @@ fn align_packed(
     seconds: usize,
 ) -> Result<Option<Aligned>, Memory>
     requires ends { end_from 0 a.now ≡ end_from 0 b.now }
-    ensures { IfOk result (λ found. IfSome found (λ z. IsAligned a.now b.now z.ranks z.joints.items)) }
+    ensures { IfOk result (λ found.
+        IfSome found (λ z. IsAligned a.now b.now z.ranks z.joints.items)) }
 {
     let Some(first) = a.to_bytes()? else {
         return Ok(None);
@@ -199,7 +205,8 @@ fn align_unpacked(
     align_runs(alloc, first.as_slice(), second.as_slice(), numbering)
 }
 
-/// Both lists at once, of so many numbers each: their numbers at a rank are those of the joint that stands there.
+/// Both lists at once, of so many numbers each: their numbers at a rank are those of the joint that
+/// stands there.
 pub fn align(
     alloc: Global,
     a: &Ranking,

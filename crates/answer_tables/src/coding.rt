@@ -14,7 +14,8 @@ const NONE: u8 = 255;
 /// The most numbers that bytes tell.
 const MANY: usize = 256;
 
-/// The joints that came so far, and the byte of each by its code: its first number times the width, and its second.
+/// The joints that came so far, and the byte of each by its code: its first number times the width,
+/// and its second.
 #[derive(Drop)]
 pub struct Coding {
     pub joints: Vec<Joint>,
@@ -38,11 +39,16 @@ impl Coding {
         })
     }
 
-    /// The byte of the two numbers, which is that of a new joint at the rank where they are met first, or none where no byte is left.
+    /// The byte of the two numbers, which is that of a new joint at the rank where they are met
+    /// first, or none where no byte is left.
     pub fn byte(&mut self, first: u8, second: u8, rank: u64) -> Result<Option<u8>, Memory>
         requires { IsCoding self.old.joints.items self.old.codes.items self.old.width }
-        ensures coding { IfOk result (λ found. IfSome found (λ byte. IsCoding self.new.joints.items self.new.codes.items self.new.width)) }
-        ensures numbered { IfOk result (λ found. IfSome found (Numbered self.old.joints.items (record { first = first; second = second; rank = rank }) self.new.joints.items)) }
+        ensures coding { IfOk result (λ found.
+            IfSome found (λ byte. IsCoding self.new.joints.items self.new.codes.items
+            self.new.width)) }
+        ensures numbered { IfOk result (λ found.
+            IfSome found (Numbered self.old.joints.items
+            (record { first = first; second = second; rank = rank }) self.new.joints.items)) }
     {
         let code = first as usize * self.width as usize + second as usize;
         if second as u16 >= self.width || code >= self.codes.len() {
@@ -67,8 +73,12 @@ impl Coding {
         requires code { code ≡ first * self.old.width + second }
         requires below { second < self.old.width }
         requires within { code < length self.old.codes.items }
-        ensures coding { IfOk result (λ found. IfSome found (λ byte. IsCoding self.new.joints.items self.new.codes.items self.new.width)) }
-        ensures numbered { IfOk result (λ found. IfSome found (Numbered self.old.joints.items (record { first = first; second = second; rank = rank }) self.new.joints.items)) }
+        ensures coding { IfOk result (λ found.
+            IfSome found (λ byte. IsCoding self.new.joints.items self.new.codes.items
+            self.new.width)) }
+        ensures numbered { IfOk result (λ found.
+            IfSome found (Numbered self.old.joints.items
+            (record { first = first; second = second; rank = rank }) self.new.joints.items)) }
     {
         let place = self.joints.len();
         if place >= NONE as usize {

@@ -4,11 +4,12 @@ ghost use Rattle.std.specs.Prelude.{◌≡◌, ◌||◌, ◌&&◌, List, IfOk, l
 ghost use Rattle.std.specs.List.{All, Contains};
 ghost use Rattle.dl_syntax.specs.declared.names.IndId.{IndId};
 ghost use Rattle.antichains.specs.Sets.{holds};
-ghost use Rattle.antichains.specs.Chain.{IsMinimal};
+ghost use Rattle.antichains.specs.Antichain.{IsMinimal};
 ghost use Rattle.formula_store.specs.Interned.{Extends};
 ghost use Rattle.answer_tables.specs.Tuples.{IsTuple};
 ghost use Rattle.answer_tables.specs.Table.{at};
-ghost use Rattle.answer_tables.specs.Combining.{test_of, Combines, AreCombined, AreCombinedWith, JointsWithin, LinksAreIn};
+ghost use Rattle.answer_tables.specs.Combining.{test_of, Combines, AreCombined, AreCombinedWith};
+ghost use Rattle.answer_tables.specs.Combining.{JointsWithin, LinksAreIn};
 
 use crate::Memory;
 use crate::align::{Joint, align};
@@ -17,14 +18,14 @@ use crate::table::Table;
 use formula_store::{Link, Store};
 use std::alloc::Global;
 
-/// How two chains become one.
+/// How two antichains become one.
 #[derive(Clone, Copy)]
 pub enum Operation {
     Or,
     And,
 }
 
-/// The link of the combined chain.
+/// The link of the combined antichain.
 fn combined_link(
     operation: Operation,
     a: &Link,
@@ -51,7 +52,8 @@ pub(crate) fn combined_links(
     store: &mut Store,
 ) -> Result<Vec<Link>, Memory>
     requires { JointsWithin (length a.now) (length b.now) joints.now }
-    ensures links { IfOk result (λ links. AreCombined (test_of operation) a.now b.now joints.now links.items) }
+    ensures links { IfOk result (λ links.
+        AreCombined (test_of operation) a.now b.now joints.now links.items) }
     ensures stored { IfOk result (λ links. All (Contains store.new) links.items) }
     ensures grown { Extends store.old store.new }
 {
@@ -71,7 +73,8 @@ pub(crate) fn combined_each(
     other: &Link,
     store: &mut Store,
 ) -> Result<Vec<Link>, Memory>
-    ensures links { IfOk result (λ all. AreCombinedWith (test_of operation) links.now other.now all.items) }
+    ensures links { IfOk result (λ all.
+        AreCombinedWith (test_of operation) links.now other.now all.items) }
     ensures stored { IfOk result (λ all. All (Contains store.new) all.items) }
     ensures grown { Extends store.old store.new }
 {
@@ -83,7 +86,7 @@ pub(crate) fn combined_each(
     Ok(all)
 }
 
-/// The table of the chains combined with one, which has the ranks of the table that is given.
+/// The table of the antichains combined with one, which has the ranks of the table that is given.
 fn combine_with(
     alloc: Global,
     operation: Operation,
@@ -93,7 +96,9 @@ fn combine_with(
 ) -> Result<Table, Memory>
     ensures slots { IfOk result (λ t. t.slots ≡ table.now.slots) }
     ensures arity { IfOk result (λ t. t.arity ≡ table.now.arity) }
-    ensures each { IfOk result (λ t. (tuple : List IndId) → IsTuple table.now.slots table.now.arity tuple → Combines (test_of operation) (at table.now tuple) other.now (at t tuple)) }
+    ensures each { IfOk result (λ t. (tuple : List IndId)
+        → IsTuple table.now.slots table.now.arity tuple
+        → Combines (test_of operation) (at table.now tuple) other.now (at t tuple)) }
     ensures stored { IfOk result (λ t. LinksAreIn t store.new) }
     ensures grown { Extends store.old store.new }
 {
@@ -107,7 +112,7 @@ fn combine_with(
     )
 }
 
-/// The table of the combined chains, where both tables are read rank by rank.
+/// The table of the combined antichains, where both tables are read rank by rank.
 fn combine_ranks(
     alloc: Global,
     operation: Operation,
@@ -119,7 +124,8 @@ fn combine_ranks(
     requires arity { a.now.arity ≡ b.now.arity }
     ensures slots { IfOk result (λ t. t.slots ≡ a.now.slots) }
     ensures arity { IfOk result (λ t. t.arity ≡ a.now.arity) }
-    ensures each { IfOk result (λ t. (tuple : List IndId) → IsTuple a.now.slots a.now.arity tuple → Combines (test_of operation) (at a.now tuple) (at b.now tuple) (at t tuple)) }
+    ensures each { IfOk result (λ t. (tuple : List IndId) → IsTuple a.now.slots a.now.arity tuple
+        → Combines (test_of operation) (at a.now tuple) (at b.now tuple) (at t tuple)) }
     ensures stored { IfOk result (λ t. LinksAreIn t store.new) }
     ensures grown { Extends store.old store.new }
 {
@@ -141,7 +147,8 @@ fn combine_ranks(
     Table::from_aligned(alloc, a.slots, a.arity, links.as_slice(), aligned.ranks)
 }
 
-/// The table of the combined chains. Where one table has one chain, no rank is read, and where few tuples of one tell the result, only theirs are.
+/// The table of the combined antichains. Where one table has one antichain, no rank is read, and
+/// where few tuples of one tell the result, only theirs are.
 pub(crate) fn combine(
     alloc: Global,
     operation: Operation,
@@ -153,7 +160,8 @@ pub(crate) fn combine(
     requires arity { a.now.arity ≡ b.now.arity }
     ensures slots { IfOk result (λ t. t.slots ≡ a.now.slots) }
     ensures arity { IfOk result (λ t. t.arity ≡ a.now.arity) }
-    ensures each { IfOk result (λ t. (tuple : List IndId) → IsTuple a.now.slots a.now.arity tuple → Combines (test_of operation) (at a.now tuple) (at b.now tuple) (at t tuple)) }
+    ensures each { IfOk result (λ t. (tuple : List IndId) → IsTuple a.now.slots a.now.arity tuple
+        → Combines (test_of operation) (at a.now tuple) (at b.now tuple) (at t tuple)) }
     ensures stored { IfOk result (λ t. LinksAreIn t store.new) }
     ensures grown { Extends store.old store.new }
 {
@@ -169,26 +177,28 @@ pub(crate) fn combine(
     combine_ranks(alloc, operation, a, b, store)
 }
 
-/// The chains that hold where either table's do.
+/// The antichains that hold where either table's do.
 pub fn combine_or(alloc: Global, a: &Table, b: &Table, store: &mut Store) -> Result<Table, Memory>
     requires slots { a.now.slots ≡ b.now.slots }
     requires arity { a.now.arity ≡ b.now.arity }
     ensures slots { IfOk result (λ t. t.slots ≡ a.now.slots) }
     ensures arity { IfOk result (λ t. t.arity ≡ a.now.arity) }
-    ensures each { IfOk result (λ t. (tuple : List IndId) → IsTuple a.now.slots a.now.arity tuple → IsMinimal (λ v. holds (at a.now tuple) v || holds (at b.now tuple) v) (at t tuple)) }
+    ensures each { IfOk result (λ t. (tuple : List IndId) → IsTuple a.now.slots a.now.arity tuple
+        → IsMinimal (λ v. holds (at a.now tuple) v || holds (at b.now tuple) v) (at t tuple)) }
     ensures stored { IfOk result (λ t. LinksAreIn t store.new) }
     ensures grown { Extends store.old store.new }
 {
     combine(alloc, Operation::Or, a, b, store)
 }
 
-/// The chains that hold where both tables' do.
+/// The antichains that hold where both tables' do.
 pub fn combine_and(alloc: Global, a: &Table, b: &Table, store: &mut Store) -> Result<Table, Memory>
     requires slots { a.now.slots ≡ b.now.slots }
     requires arity { a.now.arity ≡ b.now.arity }
     ensures slots { IfOk result (λ t. t.slots ≡ a.now.slots) }
     ensures arity { IfOk result (λ t. t.arity ≡ a.now.arity) }
-    ensures each { IfOk result (λ t. (tuple : List IndId) → IsTuple a.now.slots a.now.arity tuple → IsMinimal (λ v. holds (at a.now tuple) v && holds (at b.now tuple) v) (at t tuple)) }
+    ensures each { IfOk result (λ t. (tuple : List IndId) → IsTuple a.now.slots a.now.arity tuple
+        → IsMinimal (λ v. holds (at a.now tuple) v && holds (at b.now tuple) v) (at t tuple)) }
     ensures stored { IfOk result (λ t. LinksAreIn t store.new) }
     ensures grown { Extends store.old store.new }
 {

@@ -1,9 +1,11 @@
+//! A table from runs: how many tuples in a row have each chain.
+
 ghost use Rattle.std.specs.Prelude.{◌≡◌, ◌≤◌, ◌^◌, List, IfOk};
 ghost use Rattle.std.specs.List.{All};
 ghost use Rattle.dl_syntax.specs.declared.names.IndId.{IndId};
 ghost use Rattle.answer_tables.specs.Tuples.{IsTuple, number};
 ghost use Rattle.answer_tables.specs.Table.{at};
-ghost use Rattle.answer_tables.specs.Counts.{counted_chain, count_of};
+ghost use Rattle.answer_tables.specs.Counts.{counted_antichain, count_of};
 
 use crate::Memory;
 use crate::run::Run;
@@ -11,7 +13,8 @@ use crate::table::Table;
 use formula_store::Link;
 use std::alloc::Global;
 
-/// The table in which each run gives its chain to the next tuples, so many of them, in rising order.
+/// The table in which each run gives its antichain to the next tuples, so many of them, in rising
+/// order.
 pub fn from_runs(
     alloc: Global,
     slots: u32,
@@ -23,7 +26,8 @@ pub fn from_runs(
     requires few { slots ^ arity ≤ 2 ^ 60 }
     ensures slots { IfOk result (λ t. t.slots ≡ slots) }
     ensures arity { IfOk result (λ t. t.arity ≡ arity) }
-    ensures each { IfOk result (λ t. (tuple : List IndId) → IsTuple slots arity tuple → at t tuple ≡ counted_chain runs.now (number slots tuple)) }
+    ensures each { IfOk result (λ t. (tuple : List IndId) → IsTuple slots arity tuple
+        → at t tuple ≡ counted_antichain runs.now (number slots tuple)) }
 {
     let mut links = Vec::new(alloc);
     let mut ends = Vec::new(alloc);

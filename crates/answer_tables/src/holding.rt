@@ -1,4 +1,4 @@
-//! The tuples at which a table's chains hold.
+//! The tuples at which a table's antichains hold.
 
 ghost use Rattle.std.specs.Prelude.{◌≡◌, ◌<◌, ◌≤◌, ◌^◌, ◌+◌, ◌↔◌, List, IfOk, OnOk, IsTrue, length};
 ghost use Rattle.std.specs.List.{Contains};
@@ -72,17 +72,19 @@ fn push_tuples(
 }
 
 impl Table {
-    /// The tuples whose chain holds at the set, in rising order.
+    /// The tuples whose antichain holds at the set, in rising order.
     pub fn tuples_holding(&self, alloc: Global, set: u8) -> Result<Tuples, Memory>
         ensures arity { IfOk result (λ rows. rows.arity ≡ self.now.arity) }
         ensures rising { IfOk result (λ rows. IsRising rows.rows) }
-        ensures exact { IfOk result (λ rows. (tuple : List IndId) → Contains rows.rows tuple ↔ IsTuple self.now.slots self.now.arity tuple × IsTrue (holds (at self.now tuple) set)) }
+        ensures exact { IfOk result (λ rows. (tuple : List IndId)
+            → Contains rows.rows tuple ↔ IsTuple self.now.slots self.now.arity tuple
+            × IsTrue (holds (at self.now tuple) set)) }
     {
         let mut rows = Tuples::new(alloc, self.arity);
         let mut start = 0;
         for place in 0..self.ranks.len() {
             let run = self.ranks.run(place);
-            if holds(self.links[run.link].chain(), set) {
+            if holds(self.links[run.link].antichain(), set) {
                 push_tuples(alloc, self.slots, start, run.end, &mut rows)?;
             }
             start = run.end;

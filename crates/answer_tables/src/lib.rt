@@ -1,4 +1,4 @@
-//! Tables with a chain for each tuple.
+//! Tables with a antichain for each tuple.
 #![tactic(auto)]
 
 mod align;

@@ -2,14 +2,14 @@
 
 ghost use Rattle.std.specs.Prelude.{◌≡◌, ◌++◌, ◌↔◌, ℕ, List, IfOk, OnOk, replicate};
 ghost use Rattle.std.specs.List.{Contains};
-ghost use Rattle.answer_tables.specs.Table.{HasChain, links_of};
+ghost use Rattle.answer_tables.specs.Table.{HasAntichain, links_of};
 
 use crate::Memory;
 use crate::table::Table;
 use formula_store::Link;
 use std::alloc::Global;
 
-/// Puts so many links of a chain last.
+/// Puts so many links of a antichain last.
 fn push_copies(links: &mut Vec<Link>, link: &Link, count: u64) -> Result<(), Memory>
     ensures { OnOk result (links.new.items ≡ links.old.items ++ replicate count link.now) }
 {
@@ -20,10 +20,13 @@ fn push_copies(links: &mut Vec<Link>, link: &Link, count: u64) -> Result<(), Mem
 }
 
 impl Table {
-    /// A link of the default's chain, if there is a default, then one of each exception's chain, in rising order of their tuples. Their chains are exactly those of the tuples.
+    /// A link of the default's antichain, if there is a default, then one of each exception's
+    /// antichain, in rising order of their tuples. Their antichains are exactly those of the
+    /// tuples.
     pub fn links(&self, alloc: Global) -> Result<Vec<Link>, Memory>
         ensures links { IfOk result (λ links. links.items ≡ links_of self.now) }
-        ensures exact { IfOk result (λ links. (chain : List ℕ) → Contains links.items chain ↔ HasChain self.now chain) }
+        ensures exact { IfOk result (λ links. (antichain : List ℕ)
+            → Contains links.items antichain ↔ HasAntichain self.now antichain) }
     {
         let mut links = Vec::new(alloc);
         if self.ranks.len() == 0 {

@@ -1,11 +1,12 @@
 //! Tables that are shared where they would be made of the same again.
 
-ghost use Rattle.std.specs.Prelude.{◌≡◌, ◌||◌, ◌&&◌, ◌<◌, ◌≤◌, ◌^◌, [], ◌∷◌, List, IfOk, IfSome, length, map};
+ghost use Rattle.std.specs.Prelude.{◌≡◌, ◌||◌, ◌&&◌, ◌<◌, ◌≤◌, ◌^◌, [], ◌∷◌, List, IfOk, IfSome};
+ghost use Rattle.std.specs.Prelude.{length, map};
 ghost use Rattle.std.specs.List.{All, AllPairs, Contains};
 ghost use Rattle.dl_syntax.specs.declared.names.IndId.{IndId};
 ghost use Rattle.dl_syntax.specs.Rows.{IsRising};
 ghost use Rattle.antichains.specs.Sets.{holds};
-ghost use Rattle.antichains.specs.Chain.{IsMinimal, values_at};
+ghost use Rattle.antichains.specs.Antichain.{IsMinimal, values_at};
 ghost use Rattle.formula_store.specs.Interned.{Extends};
 ghost use Rattle.answer_tables.specs.Tuples.{IsTuple};
 ghost use Rattle.answer_tables.specs.Table.{at};
@@ -26,7 +27,8 @@ use formula_store::Store;
 use std::alloc::Global;
 use std::marker::Model;
 
-/// What the last operations at a number of places were made of, and the tables that they gave. It shows in no answer: it only saves making equal tables again.
+/// What the last operations at a number of places were made of, and the tables that they gave. It
+/// shows in no answer: it only saves making equal tables again.
 #[derive(Drop)]
 pub struct Made {
     entries: Vec<Remembered>,
@@ -176,7 +178,8 @@ impl Made {
         first: &Table,
         second: &Table,
     ) -> Option<&Table>
-        ensures { IfSome result (λ t. IsCombination (test_of operation) first.now second.now t.now) }
+        ensures { IfSome result (λ t.
+            IsCombination (test_of operation) first.now second.now t.now) }
     {
         if place >= self.entries.len() {
             return None;
@@ -248,7 +251,8 @@ impl Made {
         }
     }
 
-    /// The combination of the tables. Where one has one chain no rank is read, and nothing is remembered.
+    /// The combination of the tables. Where one has one antichain no rank is read, and nothing is
+    /// remembered.
     fn combined(
         &mut self,
         place: usize,
@@ -276,7 +280,7 @@ impl Made {
         Ok(table)
     }
 
-    /// The chains that hold where either table's do.
+    /// The antichains that hold where either table's do.
     pub fn either(
         &mut self,
         place: usize,
@@ -289,14 +293,16 @@ impl Made {
         requires arity { a.now.arity ≡ b.now.arity }
         ensures slots { IfOk result (λ t. t.slots ≡ a.now.slots) }
         ensures arity { IfOk result (λ t. t.arity ≡ a.now.arity) }
-        ensures each { IfOk result (λ t. (tuple : List IndId) → IsTuple a.now.slots a.now.arity tuple → IsMinimal (λ v. holds (at a.now tuple) v || holds (at b.now tuple) v) (at t tuple)) }
+        ensures each { IfOk result (λ t. (tuple : List IndId)
+            → IsTuple a.now.slots a.now.arity tuple
+            → IsMinimal (λ v. holds (at a.now tuple) v || holds (at b.now tuple) v) (at t tuple)) }
         ensures stored { IfOk result (λ t. LinksAreIn t store.new) }
         ensures grown { Extends store.old store.new }
     {
         self.combined(place, alloc, Operation::Or, a, b, store)
     }
 
-    /// The chains that hold where both tables' do.
+    /// The antichains that hold where both tables' do.
     pub fn both(
         &mut self,
         place: usize,
@@ -309,16 +315,18 @@ impl Made {
         requires arity { a.now.arity ≡ b.now.arity }
         ensures slots { IfOk result (λ t. t.slots ≡ a.now.slots) }
         ensures arity { IfOk result (λ t. t.arity ≡ a.now.arity) }
-        ensures each { IfOk result (λ t. (tuple : List IndId) → IsTuple a.now.slots a.now.arity tuple → IsMinimal (λ v. holds (at a.now tuple) v && holds (at b.now tuple) v) (at t tuple)) }
+        ensures each { IfOk result (λ t. (tuple : List IndId)
+            → IsTuple a.now.slots a.now.arity tuple
+            → IsMinimal (λ v. holds (at a.now tuple) v && holds (at b.now tuple) v) (at t tuple)) }
         ensures stored { IfOk result (λ t. LinksAreIn t store.new) }
         ensures grown { Extends store.old store.new }
     {
         self.combined(place, alloc, Operation::And, a, b, store)
     }
 
-    /// Each tuple's chain with the nodes replaced by their values at the tuple: `values[b]` has
-    /// those of the node numbered `b`, and a node without a value is false. Where no chain has a
-    /// node no rank is read, and nothing is remembered.
+    /// Each tuple's antichain with the nodes replaced by their values at the tuple: `values[b]` has
+    /// those of the node numbered `b`, and a node without a value is false. Where no antichain has
+    /// a node no rank is read, and nothing is remembered.
     pub fn substituted(
         &mut self,
         place: usize,
@@ -330,7 +338,10 @@ impl Made {
         requires { HaveShape table.now.slots table.now.arity values.now }
         ensures slots { IfOk result (λ t. t.slots ≡ table.now.slots) }
         ensures arity { IfOk result (λ t. t.arity ≡ table.now.arity) }
-        ensures each { IfOk result (λ t. (tuple : List IndId) → IsTuple table.now.slots table.now.arity tuple → IsMinimal (λ v. holds (at table.now tuple) (values_at (map (λ x. at x tuple) values.now) v)) (at t tuple)) }
+        ensures each { IfOk result (λ t. (tuple : List IndId)
+            → IsTuple table.now.slots table.now.arity tuple
+            → IsMinimal (λ v. holds (at table.now tuple)
+            (values_at (map (λ x. at x tuple) values.now) v)) (at t tuple)) }
         ensures stored { IfOk result (λ t. LinksAreIn t store.new) }
         ensures grown { Extends store.old store.new }
     {
@@ -346,7 +357,8 @@ impl Made {
         Ok(new)
     }
 
-    /// The table that is true exactly at the tuples whose part on the places is one of the rows, and false at the others. The rows rise.
+    /// The table that is true exactly at the tuples whose part on the places is one of the rows,
+    /// and false at the others. The rows rise.
     pub fn marked(
         &mut self,
         place: usize,
@@ -365,8 +377,10 @@ impl Made {
         requires wide { All (λ row. length row ≡ rows.now.arity) rows.now.rows }
         ensures slots { IfOk result (λ t. t.slots ≡ slots) }
         ensures arity { IfOk result (λ t. t.arity ≡ arity) }
-        ensures held { IfOk result (λ t. (tuple : List IndId) → IsTuple slots arity tuple → Contains rows.now.rows (part_on places.now tuple) → at t tuple ≡ 0 ∷ []) }
-        ensures others { IfOk result (λ t. (tuple : List IndId) → IsTuple slots arity tuple → ¬ Contains rows.now.rows (part_on places.now tuple) → at t tuple ≡ []) }
+        ensures held { IfOk result (λ t. (tuple : List IndId) → IsTuple slots arity tuple
+            → Contains rows.now.rows (part_on places.now tuple) → at t tuple ≡ 0 ∷ []) }
+        ensures others { IfOk result (λ t. (tuple : List IndId) → IsTuple slots arity tuple
+            → ¬ Contains rows.now.rows (part_on places.now tuple) → at t tuple ≡ []) }
         ensures stored { IfOk result (λ t. LinksAreIn t store.new) }
         ensures grown { Extends store.old store.new }
     {

@@ -1,6 +1,7 @@
 //! Runs that mark the ranks of rows.
 
-ghost use Rattle.std.specs.Prelude.{◌≡◌, ◌<◌, ◌≤◌, ◌^◌, ◌↔◌, ◌+◌, ℕ, true, IfOk, OnOk, IsTrue, length, slice_index, take};
+ghost use Rattle.std.specs.Prelude.{◌≡◌, ◌<◌, ◌≤◌, ◌^◌, ◌↔◌, ◌+◌, ℕ, true, IfOk, OnOk, IsTrue};
+ghost use Rattle.std.specs.Prelude.{length, slice_index, take};
 ghost use Rattle.std.specs.List.{All, AllPairs};
 ghost use Rattle.dl_syntax.specs.Rows.{IsRising};
 ghost use Rattle.answer_tables.specs.Runs.{RiseFrom, end_from};
@@ -33,7 +34,8 @@ fn is_below(slots: u32, row: &[IndId]) -> bool
     row.iter().all(|individual| individual.0 < slots)
 }
 
-/// Marks the rank of the row at a place, after those before it, and gives the runs' new end. A row with an individual beyond the slots has no rank.
+/// Marks the rank of the row at a place, after those before it, and gives the runs' new end. A row
+/// with an individual beyond the slots has no rank.
 fn mark_row(
     slots: u32,
     rows: &Tuples,
@@ -46,7 +48,8 @@ fn mark_row(
     requires wide { All (λ row. length row ≡ rows.now.arity) rows.now.rows }
     requires few { slots ^ rows.now.arity ≤ 2 ^ 60 }
     requires marks { Marks slots rows.now.arity (take place rows.now.rows) runs.old.items end }
-    ensures { IfOk result (Marks slots rows.now.arity (take (place + 1) rows.now.rows) runs.new.items) }
+    ensures { IfOk result (Marks slots rows.now.arity (take (place + 1) rows.now.rows)
+        runs.new.items) }
 {
     let row = rows.row(place);
     if !is_below(slots, row) {
@@ -59,12 +62,14 @@ fn mark_row(
     Ok(end)
 }
 
-/// Runs over the ranks of all tuples as long as the rows, with 1 at those of the rows and 0 at the others.
+/// Runs over the ranks of all tuples as long as the rows, with 1 at those of the rows and 0 at the
+/// others.
 fn mark_rows(alloc: Global, slots: u32, rows: &Tuples) -> Result<Vec<Run>, Memory>
     requires rising { IsRising rows.now.rows }
     requires wide { All (λ row. length row ≡ rows.now.arity) rows.now.rows }
     requires few { slots ^ rows.now.arity ≤ 2 ^ 60 }
-    ensures { IfOk result (λ runs. AreMarked slots rows.now.arity rows.now.rows runs.items (slots ^ rows.now.arity)) }
+    ensures { IfOk result (λ runs.
+        AreMarked slots rows.now.arity rows.now.rows runs.items (slots ^ rows.now.arity)) }
 {
     let mut runs = Vec::new(alloc);
     let mut end = 0;
@@ -75,7 +80,8 @@ fn mark_rows(alloc: Global, slots: u32, rows: &Tuples) -> Result<Vec<Run>, Memor
     Ok(runs)
 }
 
-/// The weights by which a tuple's digits tell the number of its part on the places, of which there are so many.
+/// The weights by which a tuple's digits tell the number of its part on the places, of which there
+/// are so many.
 fn weights_of_part(
     alloc: Global,
     slots: u32,
@@ -115,7 +121,8 @@ fn are_all(places: &[u8], arity: u8) -> bool
     true
 }
 
-/// Runs over the ranks of all tuples, with 1 at those whose part on the places is one of the rows and 0 at the others.
+/// Runs over the ranks of all tuples, with 1 at those whose part on the places is one of the rows
+/// and 0 at the others.
 pub fn mark_parts(
     alloc: Global,
     slots: u32,

@@ -53,7 +53,8 @@ fn mask(alloc: Global, a: &Ranking, b: &Ranking, usual: usize) -> Result<Ranking
     Ok(Ranking::from_runs(alloc, runs))
 }
 
-/// Both lists at once, of so many numbers each, but for the first one's numbers where the second has the usual number.
+/// Both lists at once, of so many numbers each, but for the first one's numbers where the second
+/// has the usual number.
 pub fn align_masked(
     alloc: Global,
     a: &Ranking,

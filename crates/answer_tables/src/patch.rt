@@ -13,7 +13,7 @@ use crate::renaming::{copies, place_of};
 use formula_store::Link;
 use std::alloc::Global;
 
-/// Links of distinct chains, and the number of one for each rank.
+/// Links of distinct antichains, and the number of one for each rank.
 #[derive(Drop)]
 pub struct Redone {
     pub links: Vec<Link>,
@@ -31,11 +31,14 @@ fn write(bytes: &mut Vec<u8>, start: usize, end: usize, byte: u8)
     }
 }
 
-/// The place of each link's chain among distinct ones, where the new ones go last, if bytes can tell the places.
+/// The place of each link's antichain among distinct ones, where the new ones go last, if bytes can
+/// tell the places.
 fn places_of(alloc: Global, once: &mut Vec<Link>, links: &[Link]) -> Result<Option<Vec<u8>>, Memory>
     requires { AreDistinct once.old.items }
     ensures distinct { IfOk result (λ found. IfSome found (λ places. AreDistinct once.new.items)) }
-    ensures places { IfOk result (λ found. IfSome found (λ places. ArePlacesAfter once.old.items links.now once.new.items places.items)) }
+    ensures places { IfOk result (λ found.
+        IfSome found (λ places. ArePlacesAfter once.old.items links.now once.new.items
+        places.items)) }
 {
     let mut places = Vec::with_capacity(alloc, links.len())?;
     for link in links {
@@ -61,7 +64,8 @@ fn patched(
     requires ends { end_from 0 ranks.now ≡ length bytes.now }
     requires named { NamedBelow (length joints.now) ranks.now }
     requires many { length places.now ≡ length joints.now }
-    ensures { IfOk result (λ new. IsPatched bytes.now ranks.now joints.now usual places.now (length bytes.now) new.items) }
+    ensures { IfOk result (λ new. IsPatched bytes.now ranks.now joints.now usual places.now
+        (length bytes.now) new.items) }
 {
     let mut new = Vec::with_capacity(alloc, bytes.len())?;
     new.extend_from_slice(bytes)?;
@@ -79,7 +83,8 @@ fn patched(
 
 /// Whether each number below a count is there.
 fn has_all(bytes: &[u8], count: usize) -> bool
-    ensures { result ≡ true → (i : ℕ) → i < count → (n : ℕ) × (n < length bytes.now) × (slice_index bytes.now n ≡ i) }
+    ensures { result ≡ true → (i : ℕ) → i < count
+        → (n : ℕ) × (n < length bytes.now) × (slice_index bytes.now n ≡ i) }
 {
     for number in 0..count {
         if !has(bytes, number) {
@@ -91,7 +96,8 @@ fn has_all(bytes: &[u8], count: usize) -> bool
 
 /// Whether a number is there.
 fn has(bytes: &[u8], number: usize) -> bool
-    ensures { result ≡ true → (n : ℕ) × (n < length bytes.now) × (slice_index bytes.now n ≡ number) }
+    ensures { result ≡ true → (n : ℕ) × (n < length bytes.now)
+        × (slice_index bytes.now n ≡ number) }
 {
     for rank in 0..bytes.len() {
         if bytes[rank] as usize == number {
@@ -101,7 +107,8 @@ fn has(bytes: &[u8], number: usize) -> bool
     false
 }
 
-/// The links of the joints in the place of a table's own, where the joint's second number isn't the usual one, if bytes can tell them and each of the table's own is still met.
+/// The links of the joints in the place of a table's own, where the joint's second number isn't the
+/// usual one, if bytes can tell them and each of the table's own is still met.
 pub fn changed(
     alloc: Global,
     own: &[Link],
@@ -116,7 +123,9 @@ pub fn changed(
     requires ends { end_from 0 aligned.now.ranks ≡ length bytes.now }
     requires named { NamedBelow (length aligned.now.joints.items) aligned.now.ranks }
     requires many { length links.now ≡ length aligned.now.joints.items }
-    ensures { IfOk result (λ found. IfSome found (λ z. IsChanged own.now links.now bytes.now aligned.now.ranks aligned.now.joints.items usual z.links.items z.bytes.items)) }
+    ensures { IfOk result (λ found.
+        IfSome found (λ z. IsChanged own.now links.now bytes.now aligned.now.ranks
+        aligned.now.joints.items usual z.links.items z.bytes.items)) }
 {
     let mut once = copies(alloc, own)?;
     let Some(places) = places_of(alloc, &mut once, links)? else {

@@ -8,7 +8,8 @@ use crate::run::{Run, end_of, extend, link_of, run_of};
 use std::alloc::Global;
 use std::marker::Model;
 
-/// Numbers for the ranks below an end, seen as runs: runs up to a start, and from there a byte for each rank, which tells a run of one rank.
+/// Numbers for the ranks below an end, seen as runs: runs up to a start, and from there a byte for
+/// each rank, which tells a run of one rank.
 #[derive(Drop)]
 pub struct Ranking {
     pub(crate) runs: Vec<Run>,
@@ -25,7 +26,9 @@ impl Model for Ranking {
 
     ghost view = { λ r. r.runs.items ++ unit_runs (end_from 0 r.runs.items) r.bytes.items };
 
-    ghost invariant = { λ r. RiseFrom 0 r.runs.items × (end_from 0 r.runs.items + length r.bytes.items < 2 ^ 64) × (r.start ≡ end_from 0 r.runs.items) };
+    ghost invariant = { λ r. RiseFrom 0 r.runs.items
+        × (end_from 0 r.runs.items + length r.bytes.items < 2 ^ 64)
+        × (r.start ≡ end_from 0 r.runs.items) };
 }
 
 /// Whether runs take more room than a byte for each rank.
@@ -140,7 +143,8 @@ impl Ranking {
         requires { rank < end_from 0 self.now }
         ensures link { result.link ≡ link_at self.now rank }
         ensures ahead { rank < result.end }
-        ensures same { (n : ℕ) → rank ≤ n → n < result.end → link_at self.now n ≡ link_at self.now rank }
+        ensures same { (n : ℕ) → rank ≤ n → n < result.end
+            → link_at self.now n ≡ link_at self.now rank }
     {
         if rank < self.start {
             return run_of(self.runs.as_slice(), rank);
@@ -165,7 +169,8 @@ impl Ranking {
 
     /// A byte for each rank, where one can tell each number.
     pub fn to_bytes(&self) -> Result<Option<Vec<u8>>, Memory>
-        ensures { IfOk result (λ found. IfSome found (λ bytes. AreAlike self.now (unit_runs 0 bytes.items))) }
+        ensures { IfOk result (λ found.
+            IfSome found (λ bytes. AreAlike self.now (unit_runs 0 bytes.items))) }
     {
         let mut bytes = Vec::new(*self.bytes.allocator());
         if let Some(own) = self.as_bytes() {

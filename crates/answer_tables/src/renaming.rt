@@ -1,6 +1,7 @@
-//! Links numbered anew, each chain once.
+//! Links numbered anew, each antichain once.
 
-ghost use Rattle.std.specs.Prelude.{◌≡◌, ◌<◌, ℕ, IfOk, IfSome, Some, length, slice_get, slice_index, true};
+ghost use Rattle.std.specs.Prelude.{◌≡◌, ◌<◌, ℕ, IfOk, IfSome, Some, length, slice_get};
+ghost use Rattle.std.specs.Prelude.{slice_index, true};
 ghost use Rattle.formula_store.specs.Interned.{AreDistinct, interned};
 ghost use Rattle.answer_tables.specs.Runs.{RiseFrom, NamedBelow, unit_runs};
 ghost use Rattle.answer_tables.specs.Renaming.{ArePlaces, AreRenamed};
@@ -16,14 +17,14 @@ use std::rc::Rc;
 /// How many links are compared with each other sooner than hashed.
 const FEW: usize = 8;
 
-/// Links of distinct chains, and the place among them of each link that was given.
+/// Links of distinct antichains, and the place among them of each link that was given.
 #[derive(Drop)]
 pub struct Once {
     pub links: Vec<Link>,
     pub places: Vec<usize>,
 }
 
-/// Links of the same chains.
+/// Links of the same antichains.
 pub fn copies(alloc: Global, links: &[Link]) -> Result<Vec<Link>, Memory>
     ensures { IfOk result (λ copies. copies.items ≡ links.now) }
 {
@@ -34,7 +35,7 @@ pub fn copies(alloc: Global, links: &[Link]) -> Result<Vec<Link>, Memory>
     Ok(copies)
 }
 
-/// The place of a link's chain among distinct ones, where it goes last if it is new.
+/// The place of a link's antichain among distinct ones, where it goes last if it is new.
 pub fn place_of(once: &mut Vec<Link>, link: &Link) -> Result<usize, Memory>
     requires { AreDistinct once.old.items }
     ensures distinct { IfOk result (λ place. AreDistinct once.new.items) }
@@ -51,7 +52,8 @@ pub fn place_of(once: &mut Vec<Link>, link: &Link) -> Result<usize, Memory>
     Ok(count)
 }
 
-/// Each chain once, in order of first occurrence, where each link is compared with those before it.
+/// Each antichain once, in order of first occurrence, where each link is compared with those before
+/// it.
 fn each_compared(alloc: Global, links: &[Link]) -> Result<Once, Memory>
     ensures distinct { IfOk result (λ o. AreDistinct o.links.items) }
     ensures places { IfOk result (λ o. ArePlaces links.now o.links.items o.places.items) }
@@ -68,22 +70,22 @@ fn each_compared(alloc: Global, links: &[Link]) -> Result<Once, Memory>
     })
 }
 
-/// Each chain once, in order of first occurrence, found by their hashes.
+/// Each antichain once, in order of first occurrence, found by their hashes.
 fn each_hashed(alloc: Global, links: &[Link]) -> Result<Once, Memory>
     ensures distinct { IfOk result (λ o. AreDistinct o.links.items) }
     ensures places { IfOk result (λ o. ArePlaces links.now o.links.items o.places.items) }
 {
-    let mut chains: IndexSet<Link> = IndexSet::new(alloc);
+    let mut antichains: IndexSet<Link> = IndexSet::new(alloc);
     let mut places = Vec::with_capacity(alloc, links.len())?;
     for link in links {
-        let (place, _) = chains.insert_full(link.copy()?)?;
+        let (place, _) = antichains.insert_full(link.copy()?)?;
         places.push(place)?;
     }
-    let links = copies(alloc, chains.as_slice())?;
+    let links = copies(alloc, antichains.as_slice())?;
     Ok(Once { links, places })
 }
 
-/// Each chain once, in order of first occurrence.
+/// Each antichain once, in order of first occurrence.
 pub fn each_once(alloc: Global, links: &[Link]) -> Result<Once, Memory>
     ensures distinct { IfOk result (λ o. AreDistinct o.links.items) }
     ensures places { IfOk result (λ o. ArePlaces links.now o.links.items o.places.items) }
@@ -124,7 +126,8 @@ pub fn renamed(alloc: Global, runs: &[Run], places: &[usize]) -> Result<Vec<Run>
 /// The same bytes, each number replaced by its place, where bytes can tell all places that are met.
 fn renamed_bytes(alloc: Global, bytes: &[u8], places: &[usize]) -> Result<Option<Vec<u8>>, Memory>
     requires named { NamedBelow (length places.now) (unit_runs 0 bytes.now) }
-    ensures { IfOk result (λ found. IfSome found (λ new. AreRenamed places.now (unit_runs 0 bytes.now) (unit_runs 0 new.items))) }
+    ensures { IfOk result (λ found. IfSome found (λ new.
+        AreRenamed places.now (unit_runs 0 bytes.now) (unit_runs 0 new.items))) }
 {
     let mut new = Vec::with_capacity(alloc, bytes.len())?;
     for byte in bytes {

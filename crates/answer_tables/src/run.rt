@@ -5,7 +5,8 @@ ghost use Rattle.answer_tables.specs.Runs.{Extended, RiseFrom, end_from, link_at
 
 use crate::Memory;
 
-/// The tuples of the ranks from the end of the run before up to this end have one link, told by its number.
+/// The tuples of the ranks from the end of the run before up to this end have one link, told by its
+/// number.
 #[derive(Clone, Copy)]
 pub struct Run {
     pub end: u64,
@@ -43,7 +44,8 @@ pub fn run_of(runs: &[Run], rank: u64) -> Run
     ensures link { result.link ≡ link_at runs.now rank }
     ensures ahead { rank < result.end }
     ensures within { result.end ≤ end_from 0 runs.now }
-    ensures same { (n : ℕ) → rank ≤ n → n < result.end → link_at runs.now n ≡ link_at runs.now rank }
+    ensures same { (n : ℕ) → rank ≤ n → n < result.end
+        → link_at runs.now n ≡ link_at runs.now rank }
 {
     let mut low = 0;
     let mut high = runs.len();

@@ -9,7 +9,7 @@ use crate::table::Table;
 use dl_syntax::Tuples;
 use formula_store::Link;
 
-/// Whether the links have the same chains in the same order.
+/// Whether the links have the same antichains in the same order.
 pub fn are_same_links(a: &[Link], b: &[Link]) -> bool
     ensures { result ≡ true → a.now ≡ b.now }
 {

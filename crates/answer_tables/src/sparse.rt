@@ -1,4 +1,4 @@
-//! Tables of which one has a usual chain at all but few tuples.
+//! Tables of which one has a usual antichain at all but few tuples.
 
 ghost use Rattle.std.specs.Prelude.{◌≡◌, ◌<◌, true, IfOk, IfSome, length};
 ghost use Rattle.std.specs.List.{All};
@@ -49,7 +49,8 @@ fn count_others(runs: &[Run], number: usize) -> u64 {
     count
 }
 
-/// The number of the second ranking's ranks but for so few that to look them up in the first is less work than to go through it.
+/// The number of the second ranking's ranks but for so few that to look them up in the first is
+/// less work than to go through it.
 fn usual_number(a: &Ranking, b: &Ranking) -> Option<usize> {
     let runs = b.as_runs()?;
     let few = a.len() / 8;
@@ -64,18 +65,18 @@ fn usual_number(a: &Ranking, b: &Ranking) -> Option<usize> {
     }
 }
 
-/// Whether the combination with the chain is the same for all chains.
+/// Whether the combination with the antichain is the same for all antichains.
 fn decides(operation: Operation, link: &Link) -> bool
     ensures { result ≡ true → IsDeciding (test_of operation) link.now }
 {
-    let sets = link.chain().sets();
+    let sets = link.antichain().sets();
     match operation {
         Operation::Or => sets.len() == 1 && sets[0] == 0,
         Operation::And => sets.is_empty(),
     }
 }
 
-/// Whether the combination with the chain leaves each of the links as it is.
+/// Whether the combination with the antichain leaves each of the links as it is.
 fn is_neutral(
     alloc: Global,
     operation: Operation,
@@ -83,7 +84,8 @@ fn is_neutral(
     link: &Link,
     store: &mut Store,
 ) -> Result<bool, Memory>
-    ensures neutral { IfOk result (λ is. is ≡ true → IsNeutral (test_of operation) links.now link.now) }
+    ensures neutral { IfOk result (λ is. is ≡ true
+        → IsNeutral (test_of operation) links.now link.now) }
     ensures grown { Extends store.old store.new }
 {
     let all = combined_each(alloc, operation, links, link, store)?;
@@ -104,7 +106,7 @@ fn are_firsts(a: &[Link], joints: &[Joint], links: &[Link]) -> bool
     true
 }
 
-/// The combination, where the usual chain decides it.
+/// The combination, where the usual antichain decides it.
 fn combine_decided(
     alloc: Global,
     operation: Operation,
@@ -115,7 +117,8 @@ fn combine_decided(
 ) -> Result<Option<Table>, Memory>
     requires slots { a.now.slots ≡ b.now.slots }
     requires arity { a.now.arity ≡ b.now.arity }
-    ensures combined { IfOk result (λ found. IfSome found (IsCombination (test_of operation) a.now b.now)) }
+    ensures combined { IfOk result (λ found.
+        IfSome found (IsCombination (test_of operation) a.now b.now)) }
     ensures stored { IfOk result (λ found. IfSome found (λ t. LinksAreIn t store.new)) }
     ensures grown { Extends store.old store.new }
 {
@@ -132,7 +135,9 @@ fn combine_decided(
     Ok(Some(table))
 }
 
-/// The combination, where the usual chain leaves each chain of the first table as it is: the first table itself where the others do so too, and else one that differs from it at their tuples alone.
+/// The combination, where the usual antichain leaves each antichain of the first table as it is:
+/// the first table itself where the others do so too, and else one that differs from it at their
+/// tuples alone.
 fn combine_neutral(
     alloc: Global,
     operation: Operation,
@@ -143,7 +148,8 @@ fn combine_neutral(
 ) -> Result<Option<Table>, Memory>
     requires slots { a.now.slots ≡ b.now.slots }
     requires arity { a.now.arity ≡ b.now.arity }
-    ensures combined { IfOk result (λ found. IfSome found (IsCombination (test_of operation) a.now b.now)) }
+    ensures combined { IfOk result (λ found.
+        IfSome found (IsCombination (test_of operation) a.now b.now)) }
     ensures stored { IfOk result (λ found. IfSome found (λ t. LinksAreIn t store.new)) }
     ensures grown { Extends store.old store.new }
 {
@@ -171,7 +177,8 @@ fn combine_neutral(
     Ok(Some(table))
 }
 
-/// The combination, where the second table has a usual chain that decides it or changes nothing.
+/// The combination, where the second table has a usual antichain that decides it or changes
+/// nothing.
 fn combine_sparse(
     alloc: Global,
     operation: Operation,
@@ -181,7 +188,8 @@ fn combine_sparse(
 ) -> Result<Option<Table>, Memory>
     requires slots { a.now.slots ≡ b.now.slots }
     requires arity { a.now.arity ≡ b.now.arity }
-    ensures combined { IfOk result (λ found. IfSome found (IsCombination (test_of operation) a.now b.now)) }
+    ensures combined { IfOk result (λ found.
+        IfSome found (IsCombination (test_of operation) a.now b.now)) }
     ensures stored { IfOk result (λ found. IfSome found (λ t. LinksAreIn t store.new)) }
     ensures grown { Extends store.old store.new }
 {
@@ -204,7 +212,8 @@ pub fn combine_few(
 ) -> Result<Option<Table>, Memory>
     requires slots { a.now.slots ≡ b.now.slots }
     requires arity { a.now.arity ≡ b.now.arity }
-    ensures combined { IfOk result (λ found. IfSome found (IsCombination (test_of operation) a.now b.now)) }
+    ensures combined { IfOk result (λ found.
+        IfSome found (IsCombination (test_of operation) a.now b.now)) }
     ensures stored { IfOk result (λ found. IfSome found (λ t. LinksAreIn t store.new)) }
     ensures grown { Extends store.old store.new }
 {

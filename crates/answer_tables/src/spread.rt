@@ -20,13 +20,14 @@ fn reach(limit: u32, weights: &[u64]) -> u64
     }
 }
 
-/// A digit up to which each, from one on, adds by its weight less than what takes a sum up to an end.
-/// Digits above the limit add as much as the limit.
+/// A digit up to which each, from one on, adds by its weight less than what takes a sum up to an
+/// end. Digits above the limit add as much as the limit.
 fn even_until(weight: u64, digit: u32, slots: u32, limit: u32, sum: u64, end: u64) -> u32
     requires { digit < slots }
     ensures from { digit ≤ result }
     ensures within { result ≤ slots }
-    ensures even { (d : ℕ) → digit ≤ d → d < result → sum + weight * (min d limit - min digit limit) < end }
+    ensures even { (d : ℕ) → digit ≤ d → d < result
+        → sum + weight * (min d limit - min digit limit) < end }
 {
     if sum >= end {
         return digit;
@@ -61,7 +62,8 @@ pub fn spread(
     requires room { start + slots ^ arity ≤ 2 ^ 60 }
     requires new_rise { RiseFrom 0 new.old.items }
     requires new_end { end_from 0 new.old.items ≡ start }
-    ensures { OnOk result (Spread runs.now weights.now slots limit old start new.old.items new.new.items) }
+    ensures { OnOk result (Spread runs.now weights.now slots limit old start new.old.items
+        new.new.items) }
 {
     let run = run_of(runs, old);
     if old + reach(limit, weights) < run.end {

@@ -4,13 +4,14 @@ ghost use Rattle.std.specs.Prelude.{◌≡◌, true, ◌<◌, ◌^◌, List, IfO
 ghost use Rattle.std.specs.List.{All, Contains};
 ghost use Rattle.dl_syntax.specs.declared.names.IndId.{IndId};
 ghost use Rattle.antichains.specs.Sets.{holds};
-ghost use Rattle.antichains.specs.Chain.{IsMinimal, values_at};
+ghost use Rattle.antichains.specs.Antichain.{IsMinimal, values_at};
 ghost use Rattle.formula_store.specs.Interned.{Extends};
 ghost use Rattle.answer_tables.specs.Tuples.{IsTuple, number};
 ghost use Rattle.answer_tables.specs.Table.{at};
 ghost use Rattle.answer_tables.specs.Joint.{joint_at};
 ghost use Rattle.answer_tables.specs.Combining.{LinksAreIn};
-ghost use Rattle.answer_tables.specs.Substituting.{HaveShape, HasNoNode, Substitutes, TellAll, AreSubstituted, chains_at};
+ghost use Rattle.answer_tables.specs.Substituting.{HaveShape, HasNoNode, Substitutes, TellAll};
+ghost use Rattle.answer_tables.specs.Substituting.{AreSubstituted, antichains_at};
 
 use crate::Memory;
 use crate::align::{Aligned, Joint, align};
@@ -19,10 +20,11 @@ use crate::table::Table;
 use formula_store::{Link, Store};
 use std::alloc::Global;
 
-/// All tables at once: where the runs have one number, each table has one chain.
+/// All tables at once: where the runs have one number, each table has one antichain.
 fn align_all(alloc: Global, table: &Table, values: &[Table]) -> Result<Aligned, Memory>
     requires { HaveShape table.now.slots table.now.arity values.now }
-    ensures { IfOk result (λ a. TellAll table.now.slots table.now.arity table.now values.now a.ranks a.joints.items) }
+    ensures { IfOk result (λ a. TellAll table.now.slots table.now.arity table.now values.now a.ranks
+        a.joints.items) }
 {
     let own = table.ranks.as_ref();
     let many = table.links.len();
@@ -40,10 +42,12 @@ fn align_all(alloc: Global, table: &Table, values: &[Table]) -> Result<Aligned, 
     Ok(aligned)
 }
 
-/// The chain of each table at the tuple with a number.
+/// The antichain of each table at the tuple with a number.
 fn value_links(alloc: Global, values: &[Table], rank: u64) -> Result<Vec<Link>, Memory>
     requires { All (λ v. rank < v.slots ^ v.arity) values.now }
-    ensures { IfOk result (λ links. (tuple : List IndId) → All (λ v. IsTuple v.slots v.arity tuple × (number v.slots tuple ≡ rank)) values.now → links.items ≡ chains_at values.now tuple) }
+    ensures { IfOk result (λ links. (tuple : List IndId)
+        → All (λ v. IsTuple v.slots v.arity tuple × (number v.slots tuple ≡ rank)) values.now
+        → links.items ≡ antichains_at values.now tuple) }
 {
     let mut links = Vec::new(alloc);
     for value in values {
@@ -53,7 +57,7 @@ fn value_links(alloc: Global, values: &[Table], rank: u64) -> Result<Vec<Link>, 
     Ok(links)
 }
 
-/// The substituted chain of the tuple with a number.
+/// The substituted antichain of the tuple with a number.
 fn substituted_link(
     alloc: Global,
     table: &Table,
@@ -63,7 +67,9 @@ fn substituted_link(
 ) -> Result<Link, Memory>
     requires shape { HaveShape table.now.slots table.now.arity values.now }
     requires within { rank < table.now.slots ^ table.now.arity }
-    ensures link { IfOk result (λ l. (tuple : List IndId) → IsTuple table.now.slots table.now.arity tuple → number table.now.slots tuple ≡ rank → Substitutes table.now values.now tuple l) }
+    ensures link { IfOk result (λ l. (tuple : List IndId)
+        → IsTuple table.now.slots table.now.arity tuple → number table.now.slots tuple ≡ rank
+        → Substitutes table.now values.now tuple l) }
     ensures stored { IfOk result (Contains store.new) }
     ensures grown { Extends store.old store.new }
 {
@@ -81,7 +87,9 @@ fn substituted_links(
 ) -> Result<Vec<Link>, Memory>
     requires shape { HaveShape table.now.slots table.now.arity values.now }
     requires within { All (λ j. j.rank < table.now.slots ^ table.now.arity) joints.now }
-    ensures links { IfOk result (λ links. AreSubstituted table.now.slots table.now.arity table.now values.now joints.now links.items) }
+    ensures links { IfOk result (λ links.
+        AreSubstituted table.now.slots table.now.arity table.now values.now joints.now
+        links.items) }
     ensures stored { IfOk result (λ links. All (Contains store.new) links.items) }
     ensures grown { Extends store.old store.new }
 {
@@ -93,7 +101,7 @@ fn substituted_links(
     Ok(links)
 }
 
-/// Whether no chain has a node: each holds at every set or at none.
+/// Whether no antichain has a node: each holds at every set or at none.
 pub(crate) fn have_no_nodes(links: &[Link]) -> bool
     ensures { result ≡ true → All HasNoNode links.now }
 {
@@ -105,15 +113,15 @@ pub(crate) fn have_no_nodes(links: &[Link]) -> bool
     true
 }
 
-/// Whether a chain has no node.
+/// Whether a antichain has no node.
 fn has_no_node(link: &Link) -> bool
     ensures { result ≡ true → HasNoNode link.now }
 {
-    let sets = link.chain().sets();
+    let sets = link.antichain().sets();
     sets.is_empty() || (sets.len() == 1 && sets[0] == 0)
 }
 
-/// Links of the same chains that are in the store.
+/// Links of the same antichains that are in the store.
 pub(crate) fn stored_links(
     alloc: Global,
     links: &[Link],
@@ -147,7 +155,7 @@ pub(crate) fn stored_table(alloc: Global, table: &Table, store: &mut Store) -> R
     })
 }
 
-/// Each tuple's substituted chain, where all tables are read rank by rank.
+/// Each tuple's substituted antichain, where all tables are read rank by rank.
 fn substitute_ranks(
     alloc: Global,
     table: &Table,
@@ -157,7 +165,10 @@ fn substitute_ranks(
     requires { HaveShape table.now.slots table.now.arity values.now }
     ensures slots { IfOk result (λ t. t.slots ≡ table.now.slots) }
     ensures arity { IfOk result (λ t. t.arity ≡ table.now.arity) }
-    ensures each { IfOk result (λ t. (tuple : List IndId) → IsTuple table.now.slots table.now.arity tuple → IsMinimal (λ v. holds (at table.now tuple) (values_at (map (λ x. at x tuple) values.now) v)) (at t tuple)) }
+    ensures each { IfOk result (λ t. (tuple : List IndId)
+        → IsTuple table.now.slots table.now.arity tuple
+        → IsMinimal (λ v. holds (at table.now tuple)
+        (values_at (map (λ x. at x tuple) values.now) v)) (at t tuple)) }
     ensures stored { IfOk result (λ t. LinksAreIn t store.new) }
     ensures grown { Extends store.old store.new }
 {
@@ -172,8 +183,8 @@ fn substitute_ranks(
     )
 }
 
-/// Each tuple's chain with the nodes replaced by their values at the tuple: `values[b]` has those
-/// of the node numbered `b`, and a node without a value is false.
+/// Each tuple's antichain with the nodes replaced by their values at the tuple: `values[b]` has
+/// those of the node numbered `b`, and a node without a value is false.
 pub fn substitute_all(
     alloc: Global,
     table: &Table,
@@ -183,7 +194,10 @@ pub fn substitute_all(
     requires { HaveShape table.now.slots table.now.arity values.now }
     ensures slots { IfOk result (λ t. t.slots ≡ table.now.slots) }
     ensures arity { IfOk result (λ t. t.arity ≡ table.now.arity) }
-    ensures each { IfOk result (λ t. (tuple : List IndId) → IsTuple table.now.slots table.now.arity tuple → IsMinimal (λ v. holds (at table.now tuple) (values_at (map (λ x. at x tuple) values.now) v)) (at t tuple)) }
+    ensures each { IfOk result (λ t. (tuple : List IndId)
+        → IsTuple table.now.slots table.now.arity tuple
+        → IsMinimal (λ v. holds (at table.now tuple)
+        (values_at (map (λ x. at x tuple) values.now) v)) (at t tuple)) }
     ensures stored { IfOk result (λ t. LinksAreIn t store.new) }
     ensures grown { Extends store.old store.new }
 {

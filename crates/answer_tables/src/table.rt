@@ -1,9 +1,12 @@
+//! A chain for each tuple of individuals.
+
 ghost use Rattle.std.specs.Prelude.{◌≡◌, ◌≤◌, ◌<◌, ◌^◌, ◌↔◌, ℕ, List, IfOk, length};
 ghost use Rattle.std.specs.List.{All, Contains};
 ghost use Rattle.formula_store.specs.Interned.{AreDistinct};
 ghost use Rattle.dl_syntax.specs.declared.names.IndId.{IndId};
 ghost use Rattle.answer_tables.specs.Tuples.{IsTuple, number};
-ghost use Rattle.answer_tables.specs.Table.{Chains, AreRuns, AreUsed, HasChain, IsTable, at, view_of};
+ghost use Rattle.answer_tables.specs.Table.{Antichains, AreRuns, AreUsed, HasAntichain, IsTable};
+ghost use Rattle.answer_tables.specs.Table.{at, view_of};
 
 use crate::Memory;
 use crate::ranking::Ranking;
@@ -15,7 +18,7 @@ use std::alloc::Global;
 use std::marker::Model;
 use std::rc::Rc;
 
-/// A chain for each tuple of so many individuals below a number of slots.
+/// A antichain for each tuple of so many individuals below a number of slots.
 #[derive(Drop)]
 pub struct Table {
     pub(crate) slots: u32,
@@ -25,9 +28,9 @@ pub struct Table {
 }
 
 impl Model for Table {
-    ghost use Rattle.answer_tables.specs.Table.{Chains, IsTable, view_of};
+    ghost use Rattle.answer_tables.specs.Table.{Antichains, IsTable, view_of};
 
-    ghost Value = { Chains };
+    ghost Value = { Antichains };
 
     ghost view = { λ t. view_of t.slots t.arity t.links.items t.ranks.value };
 
@@ -55,12 +58,13 @@ pub(crate) fn tuple_count(slots: u32, arity: u8) -> u64
     (slots as u64).pow(arity as u32)
 }
 
-/// The same chain for each tuple.
+/// The same antichain for each tuple.
 pub fn fill(alloc: Global, slots: u32, arity: u8, link: &Link) -> Result<Table, Memory>
     requires { slots ^ arity ≤ 2 ^ 60 }
     ensures slots { IfOk result (λ t. t.slots ≡ slots) }
     ensures arity { IfOk result (λ t. t.arity ≡ arity) }
-    ensures same { IfOk result (λ t. (tuple : List IndId) → IsTuple slots arity tuple → at t tuple ≡ link.now) }
+    ensures same { IfOk result (λ t. (tuple : List IndId) → IsTuple slots arity tuple
+        → at t tuple ≡ link.now) }
 {
     let end = tuple_count(slots, arity);
     if end == 0 {
@@ -80,7 +84,7 @@ pub fn fill(alloc: Global, slots: u32, arity: u8, link: &Link) -> Result<Table, 
 }
 
 impl Table {
-    /// The table of links of distinct chains, each of which some tuple has.
+    /// The table of links of distinct antichains, each of which some tuple has.
     pub(crate) fn from_own(
         alloc: Global,
         slots: u32,
@@ -147,7 +151,7 @@ impl Table {
         })
     }
 
-    /// The table of numbers for all ranks, which it shares where no chain is there twice.
+    /// The table of numbers for all ranks, which it shares where no antichain is there twice.
     pub(crate) fn from_ranking(
         alloc: Global,
         slots: u32,
@@ -183,7 +187,7 @@ impl Table {
         self.arity
     }
 
-    /// The chain of a tuple.
+    /// The antichain of a tuple.
     pub fn get(&self, tuple: &[IndId]) -> &Link
         requires { IsTuple self.now.slots self.now.arity tuple.now }
         ensures { result.now ≡ at self.now tuple.now }
@@ -192,18 +196,20 @@ impl Table {
         &self.links[self.ranks.link_of(rank)]
     }
 
-    /// The chain of the tuple with a number.
+    /// The antichain of the tuple with a number.
     pub(crate) fn at_rank(&self, rank: u64) -> &Link
         requires { rank < self.now.slots ^ self.now.arity }
-        ensures { (tuple : List IndId) → IsTuple self.now.slots self.now.arity tuple → number self.now.slots tuple ≡ rank → result.now ≡ at self.now tuple }
+        ensures { (tuple : List IndId) → IsTuple self.now.slots self.now.arity tuple
+            → number self.now.slots tuple ≡ rank → result.now ≡ at self.now tuple }
     {
         &self.links[self.ranks.link_of(rank)]
     }
 
-    /// A link of each chain of a tuple, each once.
+    /// A link of each antichain of a tuple, each once.
     pub fn distinct_links(&self) -> &[Link]
         ensures distinct { AreDistinct result.now }
-        ensures exact { (chain : List ℕ) → Contains result.now chain ↔ HasChain self.now chain }
+        ensures exact { (antichain : List ℕ)
+            → Contains result.now antichain ↔ HasAntichain self.now antichain }
     {
         self.links.as_slice()
     }

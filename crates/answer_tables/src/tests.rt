@@ -1,3 +1,5 @@
+//! Tests of the public calls, and the worked examples.
+
 ghost use Rattle.std.specs.Prelude.{◌≡◌, ◌<◌, IfOk, length, [], ◌∷◌};
 ghost use Rattle.dl_syntax.specs.Rows.{Relation};
 
@@ -8,13 +10,13 @@ use formula_store::{Link, Store};
 use std::alloc::Global;
 use std::rc::Rc;
 
-// A link of the chain of these sets.
+// A link of the antichain of these sets.
 fn link(alloc: Global, sets: &[u8]) -> Result<Link, Memory> {
-    let chain = from_sets(alloc, sets)?;
-    Link::new(alloc, chain)
+    let antichain = from_sets(alloc, sets)?;
+    Link::new(alloc, antichain)
 }
 
-// A chain for the first of three individuals, and one for the others.
+// A antichain for the first of three individuals, and one for the others.
 fn first_and_others(alloc: Global, first: &[u8], others: &[u8]) -> Result<Table, Memory>
     ensures slots { IfOk result (λ t. t.slots ≡ 3) }
     ensures arity { IfOk result (λ t. t.arity ≡ 1) }
@@ -24,18 +26,19 @@ fn first_and_others(alloc: Global, first: &[u8], others: &[u8]) -> Result<Table,
     from_runs(alloc, 3, 1, &[(1, first), (2, others)])
 }
 
-// A chain for each pair of three individuals.
+// A antichain for each pair of three individuals.
 fn everywhere(alloc: Global, sets: &[u8]) -> Result<Table, Memory>
     ensures slots { IfOk result (λ t. t.slots ≡ 3) }
     ensures arity { IfOk result (λ t. t.arity ≡ 2) }
 {
-    let chain = link(alloc, sets)?;
-    fill(alloc, 3, 2, &chain)
+    let antichain = link(alloc, sets)?;
+    fill(alloc, 3, 2, &antichain)
 }
 
 // The one row of the one individual 0.
 fn zero_row(alloc: Global) -> Result<Tuples, Memory>
-    ensures { IfOk result (λ rows. rows ≡ record { arity = 1; rows = ((record { 0 = 0 }) ∷ []) ∷ [] }) }
+    ensures { IfOk result (λ rows. rows
+        ≡ record { arity = 1; rows = ((record { 0 = 0 }) ∷ []) ∷ [] }) }
 {
     let mut rows = Tuples::new(alloc, 1);
     rows.push(&[IndId(0)])?;
@@ -54,7 +57,12 @@ fn second_is_zero(alloc: Global) -> Result<Table, Memory>
 
 // The rows of each of three individuals.
 fn all_rows(alloc: Global) -> Result<Tuples, Memory>
-    ensures { IfOk result (λ rows. rows ≡ record { arity = 1; rows = ((record { 0 = 0 }) ∷ []) ∷ ((record { 0 = 1 }) ∷ []) ∷ ((record { 0 = 2 }) ∷ []) ∷ [] }) }
+    ensures { IfOk result (λ rows. rows
+        ≡ record {
+          arity = 1;
+          rows = ((record { 0 = 0 }) ∷ []) ∷ ((record { 0 = 1 }) ∷ [])
+              ∷ ((record { 0 = 2 }) ∷ []) ∷ [];
+        }) }
 {
     let mut rows = zero_row(alloc)?;
     rows.push(&[IndId(1)])?;
@@ -77,7 +85,7 @@ fn has(table: &Table, individual: u32, sets: &[u8]) -> bool
     requires slot { individual < table.now.slots }
     requires one { table.now.arity ≡ 1 }
 {
-    table.get(&[IndId(individual)]).chain().sets() == sets
+    table.get(&[IndId(individual)]).antichain().sets() == sets
 }
 
 // Whether the table has these sets at a pair.
@@ -86,7 +94,7 @@ fn has_pair(table: &Table, first: u32, second: u32, sets: &[u8]) -> bool
     requires second { second < table.now.slots }
     requires two { table.now.arity ≡ 2 }
 {
-    table.get(&[IndId(first), IndId(second)]).chain().sets() == sets
+    table.get(&[IndId(first), IndId(second)]).antichain().sets() == sets
 }
 
 #[test]
@@ -112,8 +120,8 @@ fn links_true_and_false(rt: HostRuntime) {
     let table = second_is_zero(rt.alloc()).expect(&rt, "memory");
     let links = table.links(rt.alloc()).expect(&rt, "memory");
     assert!(rt; links.len() == 7);
-    assert!(rt; links[0].chain().sets() == [0].as_slice());
-    assert!(rt; links[6].chain().sets() == [].as_slice());
+    assert!(rt; links[0].antichain().sets() == [0].as_slice());
+    assert!(rt; links[6].antichain().sets() == [].as_slice());
     assert!(rt; table.distinct_links().len() == 2);
 }
 
@@ -184,13 +192,14 @@ fn copies(rt: HostRuntime) {
 }
 
 #[test]
-fn has_no_chain_without_tuples(rt: HostRuntime) {
+fn has_no_antichain_without_tuples(rt: HostRuntime) {
     let one = link(rt.alloc(), &[1]).expect(&rt, "memory");
     let table = fill(rt.alloc(), 0, 2, &one).expect(&rt, "memory");
     assert!(rt; table.distinct_links().is_empty());
 }
 
-// The table over triples of four individuals that is true where the last is 0, so that its runs are short.
+// The table over triples of four individuals that is true where the last is 0, so that its runs are
+// short.
 fn last_is_zero(alloc: Global) -> Result<Table, Memory>
     ensures slots { IfOk result (λ t. t.slots ≡ 4) }
     ensures arity { IfOk result (λ t. t.arity ≡ 3) }
@@ -218,7 +227,7 @@ fn is_true(table: &Table, first: u32, middle: u32, last: u32) -> bool
     requires three { table.now.arity ≡ 3 }
 {
     let triple = [IndId(first), IndId(middle), IndId(last)];
-    table.get(&triple).chain().sets() == [0].as_slice()
+    table.get(&triple).antichain().sets() == [0].as_slice()
 }
 
 #[test]
@@ -242,8 +251,8 @@ fn granted(alloc: Global) -> Result<Table, Memory>
     ensures slots { IfOk result (λ t. t.slots ≡ 4) }
     ensures arity { IfOk result (λ t. t.arity ≡ 3) }
 {
-    let chain = link(alloc, &[1])?;
-    fill(alloc, 4, 3, &chain)
+    let antichain = link(alloc, &[1])?;
+    fill(alloc, 4, 3, &antichain)
 }
 
 // Whether the tables are equal, and share their ranks.

@@ -1,6 +1,7 @@
 //! Tables that are true at given tuples.
 
-ghost use Rattle.std.specs.Prelude.{◌≡◌, ◌<◌, ◌≤◌, ◌^◌, ◌⊎◌, [], ◌∷◌, List, IfOk, ℕ, true, false, length, slice_index_or, if◌then◌else◌};
+ghost use Rattle.std.specs.Prelude.{◌≡◌, ◌<◌, ◌≤◌, ◌^◌, ◌⊎◌, [], ◌∷◌, List, IfOk, ℕ, true, false};
+ghost use Rattle.std.specs.Prelude.{length, slice_index_or, if◌then◌else◌};
 ghost use Rattle.std.specs.List.{All, AllPairs, Contains};
 ghost use Rattle.dl_syntax.specs.declared.names.IndId.{IndId};
 ghost use Rattle.dl_syntax.specs.Rows.{IsRising};
@@ -15,7 +16,7 @@ use crate::Memory;
 use crate::marks::mark_parts;
 use crate::run::Run;
 use crate::table::{Table, fill};
-use antichains::Chain;
+use antichains::Antichain;
 use dl_syntax::Tuples;
 use formula_store::{Link, Store};
 use std::alloc::Global;
@@ -23,8 +24,10 @@ use std::alloc::Global;
 /// Whether some rank has the number.
 fn has_number(runs: &[Run], link: usize) -> bool
     requires { RiseFrom 0 runs.now }
-    ensures yes { result ≡ true → (n : ℕ) × (n < end_from 0 runs.now) × (link_at runs.now n ≡ link) }
-    ensures no { result ≡ false → (n : ℕ) → n < end_from 0 runs.now → ¬ (link_at runs.now n ≡ link) }
+    ensures yes { result ≡ true → (n : ℕ) × (n < end_from 0 runs.now)
+        × (link_at runs.now n ≡ link) }
+    ensures no { result ≡ false → (n : ℕ) → n < end_from 0 runs.now
+        → ¬ (link_at runs.now n ≡ link) }
 {
     for run in runs {
         if run.link == link {
@@ -34,7 +37,8 @@ fn has_number(runs: &[Run], link: usize) -> bool
     false
 }
 
-/// The table in which the runs tell which of two links a tuple has, the first by 0 and the second by 1.
+/// The table in which the runs tell which of two links a tuple has, the first by 0 and the second
+/// by 1.
 fn from_two(
     alloc: Global,
     slots: u32,
@@ -49,7 +53,9 @@ fn from_two(
     requires named { NamedBelow 2 runs.now }
     ensures slots { IfOk result (λ t. t.slots ≡ slots) }
     ensures arity { IfOk result (λ t. t.arity ≡ arity) }
-    ensures each { IfOk result (λ t. (tuple : List IndId) → IsTuple slots arity tuple → at t tuple ≡ slice_index_or (first.now ∷ second.now ∷ []) (link_at runs.now (number slots tuple)) []) }
+    ensures each { IfOk result (λ t. (tuple : List IndId) → IsTuple slots arity tuple
+        → at t tuple ≡ slice_index_or (first.now ∷ second.now ∷ [])
+        (link_at runs.now (number slots tuple)) []) }
 {
     if !has_number(runs, 0) {
         return fill(alloc, slots, arity, second);
@@ -67,8 +73,8 @@ fn fixed_link(alloc: Global, value: bool, store: &mut Store) -> Result<Link, Mem
     ensures stored { IfOk result (Contains store.new) }
     ensures grown { Extends store.old store.new }
 {
-    let chain = Chain::fixed(alloc, value)?;
-    store.intern(chain)
+    let antichain = Antichain::fixed(alloc, value)?;
+    store.intern(antichain)
 }
 
 /// Whether no tuple has an individual.
@@ -79,7 +85,8 @@ fn has_no_individuals(slots: u32, arity: u8) -> bool
     slots == 0 || arity == 0
 }
 
-/// The table that is true exactly at the tuples whose part on the places is one of the rows, and false at the others. The rows rise. No tuple has a row with an individual that is no slot.
+/// The table that is true exactly at the tuples whose part on the places is one of the rows, and
+/// false at the others. The rows rise. No tuple has a row with an individual that is no slot.
 pub fn from_tuples(
     alloc: Global,
     slots: u32,
@@ -96,8 +103,10 @@ pub fn from_tuples(
     requires wide { All (λ row. length row ≡ rows.now.arity) rows.now.rows }
     ensures slots { IfOk result (λ t. t.slots ≡ slots) }
     ensures arity { IfOk result (λ t. t.arity ≡ arity) }
-    ensures held { IfOk result (λ t. (tuple : List IndId) → IsTuple slots arity tuple → Contains rows.now.rows (part_on places.now tuple) → at t tuple ≡ 0 ∷ []) }
-    ensures others { IfOk result (λ t. (tuple : List IndId) → IsTuple slots arity tuple → ¬ Contains rows.now.rows (part_on places.now tuple) → at t tuple ≡ []) }
+    ensures held { IfOk result (λ t. (tuple : List IndId) → IsTuple slots arity tuple
+        → Contains rows.now.rows (part_on places.now tuple) → at t tuple ≡ 0 ∷ []) }
+    ensures others { IfOk result (λ t. (tuple : List IndId) → IsTuple slots arity tuple
+        → ¬ Contains rows.now.rows (part_on places.now tuple) → at t tuple ≡ []) }
     ensures stored { IfOk result (λ t. LinksAreIn t store.new) }
     ensures grown { Extends store.old store.new }
 {

@@ -1,3 +1,5 @@
+//! A table over one slot more.
+
 ghost use Rattle.std.specs.Prelude.{◌≡◌, ◌+◌, ◌<◌, ◌≤◌, ◌^◌, List, IfOk};
 ghost use Rattle.dl_syntax.specs.declared.names.IndId.{IndId};
 ghost use Rattle.answer_tables.specs.Tuples.{IsTuple};
@@ -25,15 +27,19 @@ fn weights_of_places(alloc: Global, slots: u32, arity: u8) -> Result<Vec<u64>, M
 }
 
 impl Table {
-    /// The table over one slot more, in which the new last slot stands for what the old last slot stood for. At tuples of old slots it is as before.
+    /// The table over one slot more, in which the new last slot stands for what the old last slot
+    /// stood for. At tuples of old slots it is as before.
     pub fn widen(&self, alloc: Global) -> Result<Table, Memory>
         requires some { 0 < self.now.slots }
         requires more { self.now.slots < 4294967295 }
         requires few { (self.now.slots + 1) ^ self.now.arity ≤ 2 ^ 60 }
         ensures slots { IfOk result (λ t. t.slots ≡ self.now.slots + 1) }
         ensures arity { IfOk result (λ t. t.arity ≡ self.now.arity) }
-        ensures each { IfOk result (λ t. (tuple : List IndId) → IsTuple (self.now.slots + 1) self.now.arity tuple → at t tuple ≡ at self.now (narrowed self.now.slots tuple)) }
-        ensures old { IfOk result (λ t. (tuple : List IndId) → IsTuple self.now.slots self.now.arity tuple → at t tuple ≡ at self.now tuple) }
+        ensures each { IfOk result (λ t. (tuple : List IndId)
+            → IsTuple (self.now.slots + 1) self.now.arity tuple
+            → at t tuple ≡ at self.now (narrowed self.now.slots tuple)) }
+        ensures old { IfOk result (λ t. (tuple : List IndId)
+            → IsTuple self.now.slots self.now.arity tuple → at t tuple ≡ at self.now tuple) }
     {
         let weights = weights_of_places(alloc, self.slots, self.arity)?;
         let old = self.ranks.to_runs()?;

@@ -1,4 +1,4 @@
 pub mod Families
-pub mod Chains
+pub mod Antichains
 pub mod Minimal
 pub mod Few

@@ -1,6 +1,6 @@
 pub mod Sets
 pub mod Family
-pub mod Chain
+pub mod Antichain
 pub mod Families
 pub mod Minimal
 pub mod Laws

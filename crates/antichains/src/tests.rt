@@ -1,5 +1,7 @@
+//! Tests of the public calls, and the worked examples.
+
 use crate::Memory;
-use crate::chain::{Chain, and, from_sets, holds, or, substitute};
+use crate::antichain::{Antichain, and, from_sets, holds, or, substitute};
 
 #[test]
 fn combines(rt: HostRuntime) -> Result<(), Memory> {
@@ -24,8 +26,8 @@ fn combines(rt: HostRuntime) -> Result<(), Memory> {
 #[test]
 fn substitutes(rt: HostRuntime) -> Result<(), Memory> {
     let alloc = rt.alloc();
-    let values = vec![in alloc; Chain::fixed(alloc, true)?]?;
-    let first = Chain::one(alloc, 0)?;
+    let values = vec![in alloc; Antichain::fixed(alloc, true)?]?;
+    let first = Antichain::one(alloc, 0)?;
     let replaced = substitute(alloc, &first, values.as_slice())?;
     assert_eq!(rt; replaced.sets(), [0].as_slice());
 
@@ -34,7 +36,7 @@ fn substitutes(rt: HostRuntime) -> Result<(), Memory> {
     let replaced = substitute(alloc, &pair, values.as_slice())?;
     assert_eq!(rt; replaced.sets(), [1].as_slice());
 
-    let unnamed = substitute(alloc, &Chain::one(alloc, 2)?, values.as_slice())?;
+    let unnamed = substitute(alloc, &Antichain::one(alloc, 2)?, values.as_slice())?;
     assert_eq!(rt; unnamed.sets(), [].as_slice());
     Ok(())
 }
@@ -43,19 +45,19 @@ fn substitutes(rt: HostRuntime) -> Result<(), Memory> {
 fn makes(rt: HostRuntime) -> Result<(), Memory> {
     let alloc = rt.alloc();
     assert_eq!(rt; from_sets(alloc, &[3, 1, 2])?.sets(), [1, 2].as_slice());
-    assert_eq!(rt; Chain::one(alloc, 2)?.sets(), [4].as_slice());
-    assert_eq!(rt; Chain::fixed(alloc, true)?.sets(), [0].as_slice());
-    assert_eq!(rt; Chain::fixed(alloc, false)?.sets(), [].as_slice());
-    let chain = Chain::one(alloc, 7)?;
-    assert_eq!(rt; chain.copy()?.sets(), [128].as_slice());
+    assert_eq!(rt; Antichain::one(alloc, 2)?.sets(), [4].as_slice());
+    assert_eq!(rt; Antichain::fixed(alloc, true)?.sets(), [0].as_slice());
+    assert_eq!(rt; Antichain::fixed(alloc, false)?.sets(), [].as_slice());
+    let antichain = Antichain::one(alloc, 7)?;
+    assert_eq!(rt; antichain.copy()?.sets(), [128].as_slice());
     Ok(())
 }
 
 #[test]
 fn holds_above_a_set(rt: HostRuntime) -> Result<(), Memory> {
-    let chain = from_sets(rt.alloc(), &[3])?;
-    assert!(rt; !holds(&chain, 1));
-    assert!(rt; holds(&chain, 3));
-    assert!(rt; holds(&chain, 7));
+    let antichain = from_sets(rt.alloc(), &[3])?;
+    assert!(rt; !holds(&antichain, 1));
+    assert!(rt; holds(&antichain, 3));
+    assert!(rt; holds(&antichain, 7));
     Ok(())
 }

@@ -5,5 +5,6 @@ use Rattle.std.specs.declared.alloc.Global.{Global}
 use Rattle.clap.proofs.WalkLemmas.{list_any-map}
 use Rattle.command_words.specs.Commands.{has_barred_word, is_barred_word, texts_of}
 
-pub barred_is : (words : List (String Global)) → list_any (λ word. is_barred_word (string_bytes word)) words ≡ has_barred_word (texts_of words)
+pub barred_is : (words : List (String Global))
+    → list_any (λ word. is_barred_word (string_bytes word)) words ≡ has_barred_word (texts_of words)
 barred_is words = list_any-map is_barred_word (λ word. string_bytes word) words

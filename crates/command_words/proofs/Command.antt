@@ -5,7 +5,8 @@ use Rattle.clap.specs.declared.error.Error.{Error}
 use Rattle.clap.specs.declared.error.kind.ErrorKind.TheVariants.{OutOfMemory}
 use Rattle.clap.proofs.OnLiterals.{clap_on_literals}
 use Rattle.command_words.specs.declared.names.CommandName.{CommandName}
-use Rattle.command_words.specs.declared.names.CommandName.TheVariants.{Watch, Rewrite, Contain, Drill}
+use Rattle.command_words.specs.declared.names.CommandName.TheVariants.{Watch, Rewrite, Contain}
+use Rattle.command_words.specs.declared.names.CommandName.TheVariants.{Drill}
 use Rattle.command_words.specs.Commands.{app_of_command}
 
 pub command_is_simple : (c : CommandName) → is_simple (app_of_command c) ≡ true
@@ -23,7 +24,8 @@ command_is_free Contain = refl
 command_is_free Drill = refl
 
 -- an error that isn't of memory names a fault
-pub fault_is_named : (e : Error) (kinds : Kinds) → (kind_of e ≡ OutOfMemory → ⊥) → HasKind kinds e → kinds ≢ []
+pub fault_is_named : (e : Error) (kinds : Kinds) → (kind_of e ≡ OutOfMemory → ⊥) → HasKind kinds e
+    → kinds ≢ []
 fault_is_named e [] other (inl memory) = λ none. other memory
 fault_is_named e [] other (inr none) = absurd none
 fault_is_named e (k ∷ ks) other has = λ none. cc

@@ -1,11 +1,13 @@
 -- Canonical words mean what they say.
-use Rattle.std.proofs.Common.{◌≡◌, ◌∙◌, ◌≤◌, ℕ, Bool, true, false, List, [], ◌∷◌, ◌++◌, Some, None, Result, Ok, Err, refl, ap, sym, codes, map, arith, decimal}
+use Rattle.std.proofs.Common.{◌≡◌, ◌∙◌, ◌≤◌, ℕ, Bool, true, false, List, [], ◌∷◌, ◌++◌, Some, None}
+use Rattle.std.proofs.Common.{Result, Ok, Err, refl, ap, sym, codes, map, arith, decimal}
 use Rattle.std.specs.Prelude.{unwrap_or}
 use Rattle.std.specs.Str.{bytes_eq}
 use Rattle.std.proofs.lemmas.Bool.Decides.{nat_tests}
 use Rattle.clap.specs.Walk.{Row, Text, first_of, has_row}
 use Rattle.command_words.specs.declared.names.CommandName.{CommandName}
-use Rattle.command_words.specs.declared.names.CommandName.TheVariants.{Watch, Rewrite, Contain, Drill}
+use Rattle.command_words.specs.declared.names.CommandName.TheVariants.{Watch, Rewrite, Contain}
+use Rattle.command_words.specs.declared.names.CommandName.TheVariants.{Drill}
 use Rattle.forms.specs.declared.StreamForm.TheVariants as stream
 use Rattle.forms.specs.declared.LineForm.TheVariants as line
 use Rattle.forms.specs.declared.ReportForm.TheVariants as report
@@ -13,13 +15,20 @@ use Rattle.command_words.specs.declared.request.Request.{Request}
 use Rattle.command_words.specs.declared.request.WordsFault.{WordsFault}
 use Rattle.command_words.specs.declared.request.WordsFault.TheVariants.{Usage, Memory}
 use Rattle.command_words.specs.Commands.{command_of, has_barred_word, is_barred_word}
-use Rattle.command_words.specs.Meanings.{Answers, Meaning, file_in, is_file, meaning_in, meaning_of_words, number_in, report_form_in, report_form_of, sizes_in, stream_form_in, stream_form_of}
+use Rattle.command_words.specs.Meanings.{Answers, Meaning, file_in, is_file, meaning_in}
+use Rattle.command_words.specs.Meanings.{meaning_of_words, number_in, report_form_in}
+use Rattle.command_words.specs.Meanings.{report_form_of, sizes_in, stream_form_in, stream_form_of}
 use Rattle.command_words.specs.Canonical as said
-use Rattle.command_words.specs.Canonical.{AreOnce, Canonical, Choice, IsCanonical, IsMeant, canonical_meaning, canonical_words, form, form_said, has_name, name_of, option_words, report_as, report_said, report_word, sizes, stream_word}
+use Rattle.command_words.specs.Canonical.{AreOnce, Canonical, Choice, IsCanonical, IsMeant}
+use Rattle.command_words.specs.Canonical.{canonical_meaning, canonical_words, form, form_said}
+use Rattle.command_words.specs.Canonical.{has_name, name_of, option_words, report_as, report_said}
+use Rattle.command_words.specs.Canonical.{report_word, sizes, stream_word}
 use Rattle.command_words.proofs.Numerals.{decimal_is_file, decimal_says}
 use Rattle.command_words.proofs.Walking.{report_word_is_file, stream_word_is_file}
-use Rattle.command_words.proofs.RowsFound.{chosen, first_chosen, or_parts, place_rows, row_of_choice}
-use Rattle.command_words.proofs.Accepted.{Takes, added, default_row, no_faults, option_rows, options_are_taken, rows_are, two_are_taken}
+use Rattle.command_words.proofs.RowsFound.{chosen, first_chosen, or_parts, place_rows}
+use Rattle.command_words.proofs.RowsFound.{row_of_choice}
+use Rattle.command_words.proofs.Accepted.{Takes, added, default_row, no_faults, option_rows}
+use Rattle.command_words.proofs.Accepted.{options_are_taken, rows_are, two_are_taken}
 use Rattle.command_words.proofs.MeaningLemmas.{meaning_is, named_is}
 
 -- ---- the command is named
@@ -30,41 +39,52 @@ file_is_fine (x ∷ xs) file = grind (arith, nat_tests)
 
 options_are_fine : (cs : List Choice) → has_barred_word (option_words cs) ≡ false
 options_are_fine [] = refl
-options_are_fine (form f ∷ cs) = rw (file_is_fine (stream_word f) (stream_word_is_file f)) (options_are_fine cs)
-options_are_fine (report_as r ∷ cs) = rw (file_is_fine (report_word r) (report_word_is_file r)) (options_are_fine cs)
+options_are_fine (form f ∷ cs) =
+    rw (file_is_fine (stream_word f) (stream_word_is_file f)) (options_are_fine cs)
+options_are_fine (report_as r ∷ cs) =
+    rw (file_is_fine (report_word r) (report_word_is_file r)) (options_are_fine cs)
 options_are_fine (sizes ∷ cs) = options_are_fine cs
 
-watch_is_named : (a b : Text) (cs : List Choice) → is_file a ≡ true → is_file b ≡ true → command_of (codes "watch" ∷ a ∷ b ∷ option_words cs) ≡ Some Watch
+watch_is_named : (a b : Text) (cs : List Choice) → is_file a ≡ true → is_file b ≡ true
+    → command_of (codes "watch" ∷ a ∷ b ∷ option_words cs) ≡ Some Watch
 unfolding command_of
-watch_is_named a b cs first second = rw (file_is_fine a first, file_is_fine b second, options_are_fine cs)
+watch_is_named a b cs first second =
+    rw (file_is_fine a first, file_is_fine b second, options_are_fine cs)
 
-rewrite_is_named : (a b : Text) → is_file a ≡ true → is_file b ≡ true → command_of (codes "rewrite" ∷ a ∷ b ∷ []) ≡ Some Rewrite
+rewrite_is_named : (a b : Text) → is_file a ≡ true → is_file b ≡ true
+    → command_of (codes "rewrite" ∷ a ∷ b ∷ []) ≡ Some Rewrite
 unfolding command_of
 rewrite_is_named a b first second = rw (file_is_fine a first, file_is_fine b second)
 
-contain_is_named : (a b : Text) → is_file a ≡ true → is_file b ≡ true → command_of (codes "contain" ∷ a ∷ b ∷ []) ≡ Some Contain
+contain_is_named : (a b : Text) → is_file a ≡ true → is_file b ≡ true
+    → command_of (codes "contain" ∷ a ∷ b ∷ []) ≡ Some Contain
 unfolding command_of
 contain_is_named a b first second = rw (file_is_fine a first, file_is_fine b second)
 
-drill_is_named : (a b : Text) → is_file a ≡ true → is_file b ≡ true → command_of (codes "drill" ∷ a ∷ b ∷ []) ≡ Some Drill
+drill_is_named : (a b : Text) → is_file a ≡ true → is_file b ≡ true
+    → command_of (codes "drill" ∷ a ∷ b ∷ []) ≡ Some Drill
 unfolding command_of
 drill_is_named a b first second = rw (file_is_fine a first, file_is_fine b second)
 
 -- words that are taken mean what their rows mean
-taken_mean : (c : CommandName) (word : Text) (words : List Text) (rows : List Row) (meaning : Meaning) → command_of (word ∷ words) ≡ Some c → Takes c words rows
+taken_mean : (c : CommandName) (word : Text) (words : List Text) (rows : List Row)
+    (meaning : Meaning) → command_of (word ∷ words) ≡ Some c → Takes c words rows
     → meaning_in c rows ≡ Some meaning → meaning_of_words (word ∷ words) ≡ Some meaning
 taken_mean c word words rows meaning named takes means =
     named_is c (word ∷ words) named
-    ∙ meaning_is c (word ∷ words) (Some meaning) rows (no_faults c word words rows takes) (sym (rows_are c word words rows takes)) (sym means)
+    ∙ meaning_is c (word ∷ words) (Some meaning) rows (no_faults c word words rows takes)
+    (sym (rows_are c word words rows takes)) (sym means)
 
 -- ---- the options of a watch
 
-none_added : (id : Text) → bytes_eq (codes "sizes") id ≡ false → (b : Bool) → first_of id (added b) ≡ None
+none_added : (id : Text) → bytes_eq (codes "sizes") id ≡ false → (b : Bool)
+    → first_of id (added b) ≡ None
 unfolding added default_row
 none_added id other true = refl
 none_added id other false = rw other
 
-no_row_then : (id : Text) (cs : List Choice) (tail : List Row) → has_row id (map row_of_choice cs) ≡ false
+no_row_then : (id : Text) (cs : List Choice) (tail : List Row)
+    → has_row id (map row_of_choice cs) ≡ false
     → (chosen id cs ≡ None) × (first_of id (map row_of_choice cs ++ tail) ≡ first_of id tail)
 no_row_then id [] tail absent = (refl, refl)
 no_row_then id (c ∷ cs) tail absent =
@@ -73,20 +93,24 @@ no_row_then id (c ∷ cs) tail absent =
     (rw parts.0 later.0, rw parts.0 later.1)
 
 sizes_value : (cs : List Choice) (b : Bool) → has_row (codes "sizes") (map row_of_choice cs) ≡ b
-    → unwrap_or (first_of (codes "sizes") (map row_of_choice cs ++ added b)) (codes "false") ≡ unwrap_or (chosen (codes "sizes") cs) (codes "false")
+    → unwrap_or (first_of (codes "sizes") (map row_of_choice cs ++ added b)) (codes "false")
+    ≡ unwrap_or (chosen (codes "sizes") cs) (codes "false")
 unfolding added default_row
-sizes_value cs true there = ap (λ o. unwrap_or o (codes "false")) (first_chosen (codes "sizes") cs [] refl)
+sizes_value cs true there =
+    ap (λ o. unwrap_or o (codes "false")) (first_chosen (codes "sizes") cs [] refl)
 sizes_value cs false absent =
     let parts = no_row_then (codes "sizes") cs (default_row ∷ []) absent in rw (parts.1, parts.0)
 
-form_chosen : (cs : List Choice) → stream_form_of (unwrap_or (chosen (codes "form") cs) (codes "text")) ≡ Some (form_said cs)
+form_chosen : (cs : List Choice)
+    → stream_form_of (unwrap_or (chosen (codes "form") cs) (codes "text")) ≡ Some (form_said cs)
 form_chosen [] = refl
 form_chosen (form stream.Text ∷ cs) = refl
 form_chosen (form stream.Json ∷ cs) = refl
 form_chosen (report_as r ∷ cs) = form_chosen cs
 form_chosen (sizes ∷ cs) = form_chosen cs
 
-report_chosen : (cs : List Choice) → report_form_of (unwrap_or (chosen (codes "report") cs) (codes "text")) ≡ Some (report_said cs)
+report_chosen : (cs : List Choice)
+    → report_form_of (unwrap_or (chosen (codes "report") cs) (codes "text")) ≡ Some (report_said cs)
 report_chosen [] = refl
 report_chosen (form f ∷ cs) = report_chosen cs
 report_chosen (report_as (report.Lines line.Text) ∷ cs) = refl
@@ -94,83 +118,121 @@ report_chosen (report_as report.Objects ∷ cs) = refl
 report_chosen (report_as (report.Lines line.Csv) ∷ cs) = refl
 report_chosen (sizes ∷ cs) = report_chosen cs
 
-sizes_chosen : (cs : List Choice) → bytes_eq (unwrap_or (chosen (codes "sizes") cs) (codes "false")) (codes "true") ≡ has_name (codes "sizes") cs
+sizes_chosen : (cs : List Choice)
+    → bytes_eq (unwrap_or (chosen (codes "sizes") cs) (codes "false")) (codes "true")
+    ≡ has_name (codes "sizes") cs
 sizes_chosen [] = refl
 sizes_chosen (form f ∷ cs) = sizes_chosen cs
 sizes_chosen (report_as r ∷ cs) = sizes_chosen cs
 sizes_chosen (sizes ∷ cs) = refl
 
-form_is : (a b : Text) (cs : List Choice) → stream_form_in (place_rows Watch a b ++ option_rows cs) ≡ Some (form_said cs)
+form_is : (a b : Text) (cs : List Choice)
+    → stream_form_in (place_rows Watch a b ++ option_rows cs) ≡ Some (form_said cs)
 unfolding stream_form_in option_rows
 form_is a b cs =
     let there : Bool = has_row (codes "sizes") (map row_of_choice cs) in
-    ap (λ o. stream_form_of (unwrap_or o (codes "text"))) (first_chosen (codes "form") cs (added there) (none_added (codes "form") refl there)) ∙ form_chosen cs
+    ap (λ o. stream_form_of (unwrap_or o (codes "text")))
+    (first_chosen (codes "form") cs (added there)
+    (none_added (codes "form") refl there)) ∙ form_chosen cs
 
-report_is : (a b : Text) (cs : List Choice) → report_form_in (place_rows Watch a b ++ option_rows cs) ≡ Some (report_said cs)
+report_is : (a b : Text) (cs : List Choice)
+    → report_form_in (place_rows Watch a b ++ option_rows cs) ≡ Some (report_said cs)
 unfolding report_form_in option_rows
 report_is a b cs =
     let there : Bool = has_row (codes "sizes") (map row_of_choice cs) in
-    ap (λ o. report_form_of (unwrap_or o (codes "text"))) (first_chosen (codes "report") cs (added there) (none_added (codes "report") refl there)) ∙ report_chosen cs
+    ap (λ o. report_form_of (unwrap_or o (codes "text")))
+    (first_chosen (codes "report") cs (added there)
+    (none_added (codes "report") refl there)) ∙ report_chosen cs
 
-sizes_are : (a b : Text) (cs : List Choice) → sizes_in (place_rows Watch a b ++ option_rows cs) ≡ has_name (codes "sizes") cs
+sizes_are : (a b : Text) (cs : List Choice)
+    → sizes_in (place_rows Watch a b ++ option_rows cs) ≡ has_name (codes "sizes") cs
 unfolding sizes_in option_rows
 sizes_are a b cs =
-    ap (λ t. bytes_eq t (codes "true")) (sizes_value cs (has_row (codes "sizes") (map row_of_choice cs)) refl) ∙ sizes_chosen cs
+    ap (λ t. bytes_eq t (codes "true"))
+    (sizes_value cs (has_row (codes "sizes") (map row_of_choice cs)) refl) ∙ sizes_chosen cs
 
 -- ---- the two places
 
-ontology_is : (a b : Text) (tail : List Row) → is_file a ≡ true → file_in (codes "ontology") (place_rows Watch a b ++ tail) ≡ Some a
+ontology_is : (a b : Text) (tail : List Row) → is_file a ≡ true
+    → file_in (codes "ontology") (place_rows Watch a b ++ tail) ≡ Some a
 unfolding file_in
 ontology_is a b tail file = rw file
 
-queries_is : (a b : Text) (tail : List Row) → is_file b ≡ true → file_in (codes "queries") (place_rows Watch a b ++ tail) ≡ Some b
+queries_is : (a b : Text) (tail : List Row) → is_file b ≡ true
+    → file_in (codes "queries") (place_rows Watch a b ++ tail) ≡ Some b
 unfolding file_in
 queries_is a b tail file = rw file
 
 watch_means : (a b : Text) (cs : List Choice) → is_file a ≡ true → is_file b ≡ true
-    → meaning_in Watch (place_rows Watch a b ++ option_rows cs) ≡ Some (canonical_meaning (said.watch a b cs))
+    → meaning_in Watch (place_rows Watch a b ++ option_rows cs)
+    ≡ Some (canonical_meaning (said.watch a b cs))
 unfolding meaning_in
 watch_means a b cs first second =
-    rw (ontology_is a b (option_rows cs) first, queries_is a b (option_rows cs) second, form_is a b cs, report_is a b cs, sizes_are a b cs)
+    rw (
+      ontology_is a b (option_rows cs) first,
+      queries_is a b (option_rows cs) second,
+      form_is a b
+          cs,
+      report_is a b cs,
+      sizes_are a b cs,
+    )
 
-rewrite_means : (a b : Text) → is_file a ≡ true → is_file b ≡ true → meaning_in Rewrite (place_rows Rewrite a b) ≡ Some (canonical_meaning (said.rewrite a b))
+rewrite_means : (a b : Text) → is_file a ≡ true → is_file b ≡ true
+    → meaning_in Rewrite (place_rows Rewrite a b) ≡ Some (canonical_meaning (said.rewrite a b))
 unfolding meaning_in
 rewrite_means a b first second = rw (ontology_is a b [] first, queries_is a b [] second)
 
-contain_means : (a b : Text) → is_file a ≡ true → is_file b ≡ true → meaning_in Contain (place_rows Contain a b) ≡ Some (canonical_meaning (said.contain a b))
+contain_means : (a b : Text) → is_file a ≡ true → is_file b ≡ true
+    → meaning_in Contain (place_rows Contain a b) ≡ Some (canonical_meaning (said.contain a b))
 unfolding meaning_in
 contain_means a b first second = rw (ontology_is a b [] first, queries_is a b [] second)
 
-seed_is : (a b : Text) (n : ℕ) → n ≤ 2147483647 → a ≡ decimal n → number_in 2147483647 (codes "seed") (place_rows Drill a b) ≡ Some n
+seed_is : (a b : Text) (n : ℕ) → n ≤ 2147483647 → a ≡ decimal n
+    → number_in 2147483647 (codes "seed") (place_rows Drill a b) ≡ Some n
 unfolding number_in
 seed_is a b n below is = rw is (decimal_says 2147483647 n below (omega arith))
 
-count_is : (a b : Text) (n : ℕ) → n ≤ 100000 → b ≡ decimal n → number_in 100000 (codes "count") (place_rows Drill a b) ≡ Some n
+count_is : (a b : Text) (n : ℕ) → n ≤ 100000 → b ≡ decimal n
+    → number_in 100000 (codes "count") (place_rows Drill a b) ≡ Some n
 unfolding number_in
 count_is a b n below is = rw is (decimal_says 100000 n below (omega arith))
 
 drill_means : (seed count : ℕ) → seed ≤ 2147483647 → count ≤ 100000
-    → meaning_in Drill (place_rows Drill (decimal seed) (decimal count)) ≡ Some (canonical_meaning (said.drill seed count))
+    → meaning_in Drill (place_rows Drill (decimal seed) (decimal count))
+    ≡ Some (canonical_meaning (said.drill seed count))
 unfolding meaning_in
-drill_means seed count first second = rw (seed_is (decimal seed) (decimal count) seed first refl, count_is (decimal seed) (decimal count) count second refl)
+drill_means seed count first second =
+    rw (
+      seed_is (decimal seed) (decimal count) seed first refl,
+      count_is (decimal seed)
+          (decimal count) count second refl,
+    )
 
 -- ---- the words
 
-pub canonical_means : (c : Canonical) → IsCanonical c → meaning_of_words (canonical_words c) ≡ Some (canonical_meaning c)
+pub canonical_means : (c : Canonical) → IsCanonical c
+    → meaning_of_words (canonical_words c) ≡ Some (canonical_meaning c)
 canonical_means (said.watch a b cs) good =
-    taken_mean Watch (codes "watch") (a ∷ b ∷ option_words cs) _ _ (watch_is_named a b cs good.0 good.1) (options_are_taken a b cs good.0 good.1 good.2) (watch_means a b cs good.0 good.1)
+    taken_mean Watch (codes "watch") (a ∷ b ∷ option_words cs) _ _
+    (watch_is_named a b cs good.0 good.1) (options_are_taken a b cs good.0 good.1 good.2)
+    (watch_means a b cs good.0 good.1)
 canonical_means (said.rewrite a b) good =
-    taken_mean Rewrite (codes "rewrite") (a ∷ b ∷ []) _ _ (rewrite_is_named a b good.0 good.1) (two_are_taken Rewrite a b good.0 good.1 refl) (rewrite_means a b good.0 good.1)
+    taken_mean Rewrite (codes "rewrite") (a ∷ b ∷ []) _ _ (rewrite_is_named a b good.0 good.1)
+    (two_are_taken Rewrite a b good.0 good.1 refl) (rewrite_means a b good.0 good.1)
 canonical_means (said.contain a b) good =
-    taken_mean Contain (codes "contain") (a ∷ b ∷ []) _ _ (contain_is_named a b good.0 good.1) (two_are_taken Contain a b good.0 good.1 refl) (contain_means a b good.0 good.1)
+    taken_mean Contain (codes "contain") (a ∷ b ∷ []) _ _ (contain_is_named a b good.0 good.1)
+    (two_are_taken Contain a b good.0 good.1 refl) (contain_means a b good.0 good.1)
 canonical_means (said.drill seed count) good =
     let first = decimal_is_file seed (omega (arith, good.0)) in
     let second = decimal_is_file count (omega (arith, good.1)) in
-    taken_mean Drill (codes "drill") (decimal seed ∷ decimal count ∷ []) _ _ (drill_is_named (decimal seed) (decimal count) first second)
-    (two_are_taken Drill (decimal seed) (decimal count) first second refl) (drill_means seed count good.0 good.1)
+    taken_mean Drill (codes "drill") (decimal seed ∷ decimal count ∷ []) _ _
+    (drill_is_named (decimal seed) (decimal count) first second)
+    (two_are_taken Drill (decimal seed) (decimal count) first second refl)
+    (drill_means seed count good.0 good.1)
 
 -- an exact answer to canonical words is what they say
-pub meant_is : (words : List Text) (answer : Result Request WordsFault) (c : Canonical) → Answers (meaning_of_words words) answer → IsCanonical c → words ≡ canonical_words c
+pub meant_is : (words : List Text) (answer : Result Request WordsFault) (c : Canonical)
+    → Answers (meaning_of_words words) answer → IsCanonical c → words ≡ canonical_words c
     → IsMeant (canonical_meaning c) answer
 meant_is words (Ok r) c answers good is =
     let means = ap meaning_of_words is ∙ canonical_means c good in cc (answers, means)

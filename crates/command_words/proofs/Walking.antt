@@ -1,12 +1,15 @@
 -- The walk of clap's exact function over canonical words.
-use Rattle.std.proofs.Common.{◌≡◌, ◌∙◌, ℕ, true, false, List, [], ◌∷◌, Some, None, refl, ap, codes, fold, arith}
+use Rattle.std.proofs.Common.{◌≡◌, ◌∙◌, ℕ, true, false, List, [], ◌∷◌, Some, None, refl, ap, codes}
+use Rattle.std.proofs.Common.{fold, arith}
 use Rattle.std.specs.Str.{bytes_eq}
 use Rattle.clap.specs.Lexer.{long_of, short_of}
-use Rattle.clap.specs.Walk.{Held, Rule, Text, Walk, arg_by_id, arg_by_long, idle, nothing_held, option, reacted, settled, used, walk_from, walked}
+use Rattle.clap.specs.Walk.{Held, Rule, Text, Walk, arg_by_id, arg_by_long, idle, nothing_held}
+use Rattle.clap.specs.Walk.{option, reacted, settled, used, walk_from, walked}
 use Rattle.clap.specs.Simple.{Shape, built, filled, names_of, new_shape, with_index}
 use Rattle.clap.proofs.OnLiterals.{clap_on_literals}
 use Rattle.command_words.specs.declared.names.CommandName.{CommandName}
-use Rattle.command_words.specs.declared.names.CommandName.TheVariants.{Watch, Rewrite, Contain, Drill}
+use Rattle.command_words.specs.declared.names.CommandName.TheVariants.{Watch, Rewrite, Contain}
+use Rattle.command_words.specs.declared.names.CommandName.TheVariants.{Drill}
 use Rattle.forms.specs.declared.StreamForm.{StreamForm}
 use Rattle.forms.specs.declared.StreamForm.TheVariants as stream
 use Rattle.forms.specs.declared.ReportForm.{ReportForm}
@@ -14,7 +17,8 @@ use Rattle.forms.specs.declared.LineForm.TheVariants as line
 use Rattle.forms.specs.declared.ReportForm.TheVariants as report
 use Rattle.command_words.specs.Commands.{app_of_command, flag_rule, place_rule, value_rule}
 use Rattle.command_words.specs.Meanings.{is_file}
-use Rattle.command_words.specs.Canonical.{Choice, form, report_as, sizes, option_word, option_words, report_word, stream_word}
+use Rattle.command_words.specs.Canonical.{Choice, form, report_as, sizes, option_word, option_words}
+use Rattle.command_words.specs.Canonical.{report_word, stream_word}
 
 -- ---- each command as it is built
 
@@ -55,7 +59,13 @@ unfoldable pub rules : CommandName → List Rule
 rules c = place_built 1 (first_id c) ∷ place_built 2 (second_id c) ∷ option_rules c
 
 abbrev pub shape : CommandName → Shape
-shape c = record (new_shape (command_name c)) { rules = rules c; disable_help_flag = true; disable_help_subcommand = true; is_built = true }
+shape c = record (new_shape (command_name c)) {
+  rules = rules c;
+  disable_help_flag =
+      true;
+  disable_help_subcommand = true;
+  is_built = true;
+}
 
 pub shape_is : (c : CommandName) → (built (app_of_command c)).top ≡ shape c
 unfolding app_of_command rules clap_on_literals
@@ -73,7 +83,8 @@ no_names Drill = refl
 
 -- ---- words that may name a file
 
-pub file_is_plain : (t : Text) → is_file t ≡ true → (long_of t ≡ None) × (short_of t ≡ None) × (bytes_eq t (45 ∷ 45 ∷ []) ≡ false)
+pub file_is_plain : (t : Text) → is_file t ≡ true
+    → (long_of t ≡ None) × (short_of t ≡ None) × (bytes_eq t (45 ∷ 45 ∷ []) ≡ false)
 file_is_plain [] file = absurd (cc)
 file_is_plain (x ∷ xs) file = grind arith
 
@@ -97,12 +108,14 @@ abbrev pub valued_name : Valued → Text
 valued_name of_form = codes "form"
 valued_name of_report = codes "report"
 
-pub by_long : (n : Valued) → arg_by_long (rules Watch) (valued_name n) ≡ Some (value_built (valued_name n))
+pub by_long : (n : Valued) → arg_by_long (rules Watch) (valued_name n)
+    ≡ Some (value_built (valued_name n))
 unfolding rules clap_on_literals
 by_long of_form = refl
 by_long of_report = refl
 
-pub by_id : (n : Valued) → arg_by_id (rules Watch) (valued_name n) ≡ Some (value_built (valued_name n))
+pub by_id : (n : Valued) → arg_by_id (rules Watch) (valued_name n)
+    ≡ Some (value_built (valued_name n))
 unfolding rules clap_on_literals
 by_id of_form = refl
 by_id of_report = refl
@@ -111,7 +124,9 @@ pub sizes_by_long : arg_by_long (rules Watch) (codes "sizes") ≡ Some sizes_bui
 unfolding rules clap_on_literals
 sizes_by_long = refl
 
-pub option_reads : (n : Valued) → (long_of (option_word (valued_name n)) ≡ Some (valued_name n, None)) × (bytes_eq (option_word (valued_name n)) (45 ∷ 45 ∷ []) ≡ false)
+pub option_reads : (n : Valued)
+    → (long_of (option_word (valued_name n)) ≡ Some (valued_name n, None))
+    × (bytes_eq (option_word (valued_name n)) (45 ∷ 45 ∷ []) ≡ false)
 unfolding clap_on_literals
 option_reads of_form = (refl, refl)
 option_reads of_report = (refl, refl)
@@ -126,7 +141,14 @@ stands h = record { held = h; waiting = idle; position = 3; is_trailing = false;
 
 -- the walk stands where an option waits for its value
 abbrev pub waits : Text → Held → Walk
-waits id h = record { held = record (settled (rules Watch) h) { pending = Some (id, []) }; waiting = option id; position = 3; is_trailing = false; stopped = None }
+waits id h = record {
+  held = record (settled (rules Watch) h) { pending = Some (id, []) };
+  waiting =
+      option id;
+  position = 3;
+  is_trailing = false;
+  stopped = None;
+}
 
 -- what is held after an option with a value, and after the flag
 abbrev pub held_value : Valued → Text → Held → Held
@@ -137,17 +159,20 @@ held_with (form f) h = held_value of_form (stream_word f) h
 held_with (report_as r) h = held_value of_report (report_word r) h
 held_with sizes h = reacted (rules Watch) sizes_built [] h
 
-pub name_step : (n : Valued) (h : Held) → walked (rules Watch) [] (stands h) (option_word (valued_name n)) ≡ waits (valued_name n) h
+pub name_step : (n : Valued) (h : Held)
+    → walked (rules Watch) [] (stands h) (option_word (valued_name n)) ≡ waits (valued_name n) h
 unfolding walked
 name_step n h = rw ((option_reads n).1, (option_reads n).0, by_long n)
 
-pub value_step : (n : Valued) (h : Held) (t : Text) → is_file t ≡ true → walked (rules Watch) [] (waits (valued_name n) h) t ≡ stands (held_value n t h)
+pub value_step : (n : Valued) (h : Held) (t : Text) → is_file t ≡ true
+    → walked (rules Watch) [] (waits (valued_name n) h) t ≡ stands (held_value n t h)
 unfolding walked clap_on_literals
 value_step n h t file =
     let plain = file_is_plain t file in
     rw (plain.2, plain.0, plain.1, by_id n, same_name n)
 
-pub sizes_step : (h : Held) → walked (rules Watch) [] (stands h) (option_word (codes "sizes")) ≡ stands (held_with sizes h)
+pub sizes_step : (h : Held) → walked (rules Watch) [] (stands h) (option_word (codes "sizes"))
+    ≡ stands (held_with sizes h)
 unfolding walked clap_on_literals
 sizes_step h = rw sizes_by_long
 
@@ -157,20 +182,27 @@ abbrev pub held_after : List Choice → Held → Held
 held_after [] h = h
 held_after (c ∷ cs) h = held_after cs (held_with c h)
 
-walk_value : (n : Valued) (t : Text) (h end : Held) (rest : List Text) → is_file t ≡ true → fold (walked (rules Watch) []) (stands (held_value n t h)) rest ≡ stands end
-    → fold (walked (rules Watch) []) (stands h) (option_word (valued_name n) ∷ t ∷ rest) ≡ stands end
+walk_value : (n : Valued) (t : Text) (h end : Held) (rest : List Text) → is_file t ≡ true
+    → fold (walked (rules Watch) []) (stands (held_value n t h)) rest ≡ stands end
+    → fold (walked (rules Watch) []) (stands h) (option_word (valued_name n) ∷ t ∷ rest)
+    ≡ stands end
 walk_value n t h end rest file later =
     ap (λ w. fold (walked (rules Watch) []) (walked (rules Watch) [] w t) rest) (name_step n h)
     ∙ ap (λ w. fold (walked (rules Watch) []) w rest) (value_step n h t file)
     ∙ later
 
-pub walk_options : (cs : List Choice) (h : Held) → fold (walked (rules Watch) []) (stands h) (option_words cs) ≡ stands (held_after cs h)
+pub walk_options : (cs : List Choice) (h : Held)
+    → fold (walked (rules Watch) []) (stands h) (option_words cs) ≡ stands (held_after cs h)
 walk_options [] h = refl
-walk_options (form f ∷ cs) h = walk_value of_form (stream_word f) h (held_after cs (held_with (form f) h)) (option_words cs) (stream_word_is_file f) (walk_options cs (held_with (form f) h))
+walk_options (form f ∷ cs) h =
+    walk_value of_form (stream_word f) h (held_after cs (held_with (form f) h)) (option_words cs)
+    (stream_word_is_file f) (walk_options cs (held_with (form f) h))
 walk_options (report_as r ∷ cs) h =
-    walk_value of_report (report_word r) h (held_after cs (held_with (report_as r) h)) (option_words cs) (report_word_is_file r) (walk_options cs (held_with (report_as r) h))
+    walk_value of_report (report_word r) h (held_after cs (held_with (report_as r) h))
+    (option_words cs) (report_word_is_file r) (walk_options cs (held_with (report_as r) h))
 walk_options (sizes ∷ cs) h =
-    ap (λ w. fold (walked (rules Watch) []) w (option_words cs)) (sizes_step h) ∙ walk_options cs (held_with sizes h)
+    ap (λ w. fold (walked (rules Watch) []) w (option_words cs)) (sizes_step h) ∙ walk_options cs
+    (held_with sizes h)
 
 -- ---- the two words that stand at their places
 
@@ -178,27 +210,43 @@ abbrev pub held_first : CommandName → Text → Held
 held_first c a = record { rows = []; pending = Some (first_id c, a ∷ []); skip = 0 }
 
 abbrev pub stands_first : CommandName → Text → Walk
-stands_first c a = record { held = held_first c a; waiting = idle; position = 2; is_trailing = false; stopped = None }
+stands_first c a = record {
+  held = held_first c a;
+  waiting = idle;
+  position = 2;
+  is_trailing =
+      false;
+  stopped = None;
+}
 
 abbrev pub held_places : CommandName → Text → Text → Held
-held_places c a b = record { rows = used (place_built 1 (first_id c)) (a ∷ []) []; pending = Some (second_id c, b ∷ []); skip = 0 }
+held_places c a b = record {
+  rows = used (place_built 1 (first_id c)) (a ∷ []) [];
+  pending =
+      Some (second_id c, b ∷ []);
+  skip = 0;
+}
 
-pub first_step : (c : CommandName) (a : Text) → is_file a ≡ true → walked (rules c) [] (walk_from nothing_held) a ≡ stands_first c a
+pub first_step : (c : CommandName) (a : Text) → is_file a ≡ true
+    → walked (rules c) [] (walk_from nothing_held) a ≡ stands_first c a
 unfolding walked rules clap_on_literals
 first_step Watch a file = let plain = file_is_plain a file in rw (plain.2, plain.0, plain.1)
 first_step Rewrite a file = let plain = file_is_plain a file in rw (plain.2, plain.0, plain.1)
 first_step Contain a file = let plain = file_is_plain a file in rw (plain.2, plain.0, plain.1)
 first_step Drill a file = let plain = file_is_plain a file in rw (plain.2, plain.0, plain.1)
 
-pub second_step : (c : CommandName) (a b : Text) → is_file b ≡ true → walked (rules c) [] (stands_first c a) b ≡ stands (held_places c a b)
+pub second_step : (c : CommandName) (a b : Text) → is_file b ≡ true
+    → walked (rules c) [] (stands_first c a) b ≡ stands (held_places c a b)
 unfolding walked rules clap_on_literals
 second_step Watch a b file = let plain = file_is_plain b file in rw (plain.2, plain.0, plain.1)
 second_step Rewrite a b file = let plain = file_is_plain b file in rw (plain.2, plain.0, plain.1)
 second_step Contain a b file = let plain = file_is_plain b file in rw (plain.2, plain.0, plain.1)
 second_step Drill a b file = let plain = file_is_plain b file in rw (plain.2, plain.0, plain.1)
 
-pub walk_words : (c : CommandName) (a b : Text) (rest : List Text) → is_file a ≡ true → is_file b ≡ true
-    → fold (walked (rules c) []) (walk_from nothing_held) (a ∷ b ∷ rest) ≡ fold (walked (rules c) []) (stands (held_places c a b)) rest
+pub walk_words : (c : CommandName) (a b : Text) (rest : List Text) → is_file a ≡ true
+    → is_file b ≡ true
+    → fold (walked (rules c) []) (walk_from nothing_held) (a ∷ b ∷ rest)
+    ≡ fold (walked (rules c) []) (stands (held_places c a b)) rest
 walk_words c a b rest first second =
     ap (λ w. fold (walked (rules c) []) (walked (rules c) [] w b) rest) (first_step c a first)
     ∙ ap (λ w. fold (walked (rules c) []) w rest) (second_step c a b second)

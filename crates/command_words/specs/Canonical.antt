@@ -1,5 +1,6 @@
 -- The canonical words of each command: its name, its two arguments, and for a watch its options.
-use Rattle.std.specs.Prelude.{◌≡◌, ◌≤◌, ℕ, Bool, true, false, List, [], ◌∷◌, codes, decimal, MatchResult, Result}
+use Rattle.std.specs.Prelude.{◌≡◌, ◌≤◌, ℕ, Bool, true, false, List, [], ◌∷◌, codes, decimal}
+use Rattle.std.specs.Prelude.{MatchResult, Result}
 use Rattle.std.specs.List.{list_any}
 use Rattle.std.specs.Str.{bytes_eq}
 use Rattle.clap.specs.Walk.{Text}
@@ -11,7 +12,8 @@ use Rattle.forms.specs.declared.ReportForm.TheVariants as report
 use Rattle.command_words.specs.declared.request.Request.{Request}
 use Rattle.command_words.specs.declared.request.WordsFault.{WordsFault}
 use Rattle.command_words.specs.declared.request.WordsFault.TheVariants.{Memory}
-use Rattle.command_words.specs.Meanings.{Meaning, is_file, meaning_of, watch as watches, rewrite as rewrites, contain as contains, drill as drills}
+use Rattle.command_words.specs.Meanings.{Meaning, is_file, meaning_of, watch as watches}
+use Rattle.command_words.specs.Meanings.{rewrite as rewrites, contain as contains, drill as drills}
 
 -- an option of a watch, with its value
 pub data Choice : Type 0 where
@@ -58,7 +60,8 @@ option_words (sizes ∷ rest) = option_word (codes "sizes") ∷ option_words res
 
 -- the canonical words
 abbrev pub canonical_words : Canonical → List Text
-canonical_words (watch ontology queries choices) = codes "watch" ∷ ontology ∷ queries ∷ option_words choices
+canonical_words (watch ontology queries choices) =
+    codes "watch" ∷ ontology ∷ queries ∷ option_words choices
 canonical_words (rewrite ontology queries) = codes "rewrite" ∷ ontology ∷ queries ∷ []
 canonical_words (contain ontology queries) = codes "contain" ∷ ontology ∷ queries ∷ []
 canonical_words (drill seed count) = codes "drill" ∷ decimal seed ∷ decimal count ∷ []
@@ -74,9 +77,11 @@ abbrev pub AreOnce : List Choice → Type 0
 AreOnce [] = Unit {0}
 AreOnce (choice ∷ rest) = (has_name (name_of choice) rest ≡ false) × AreOnce rest
 
--- the files have names that may name a file, each option stands at most once, and no number is above its limit
+-- the files have names that may name a file, each option stands at most once, and no number is
+-- above its limit
 abbrev pub IsCanonical : Canonical → Type 0
-IsCanonical (watch ontology queries choices) = (is_file ontology ≡ true) × (is_file queries ≡ true) × AreOnce choices
+IsCanonical (watch ontology queries choices) = (is_file ontology ≡ true) × (is_file queries ≡ true)
+    × AreOnce choices
 IsCanonical (rewrite ontology queries) = (is_file ontology ≡ true) × (is_file queries ≡ true)
 IsCanonical (contain ontology queries) = (is_file ontology ≡ true) × (is_file queries ≡ true)
 IsCanonical (drill seed count) = (seed ≤ 2147483647) × (count ≤ 100000)
@@ -112,4 +117,5 @@ canonical_meaning (drill seed count) = drills seed count
 
 -- the answer is this meaning, or want of memory
 abbrev pub IsMeant : Meaning → Result Request WordsFault → Type 0
-IsMeant meaning answer = MatchResult answer (λ request. meaning_of request ≡ meaning) (λ fault. fault ≡ Memory)
+IsMeant meaning answer = MatchResult answer (λ request. meaning_of request ≡ meaning) (λ fault.
+    fault ≡ Memory)

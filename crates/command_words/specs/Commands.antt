@@ -1,13 +1,16 @@
 -- The commands, and what clap makes of the words of each.
-use Rattle.std.specs.Prelude.{◌||◌, Bool, true, List, [], ◌∷◌, Option, Some, None, codes, if◌then◌else◌, map, String, string_bytes}
+use Rattle.std.specs.Prelude.{◌||◌, Bool, true, List, [], ◌∷◌, Option, Some, None, codes}
+use Rattle.std.specs.Prelude.{if◌then◌else◌, map, String, string_bytes}
 use Rattle.std.specs.declared.alloc.Global.{Global}
 use Rattle.std.specs.List.{list_any}
 use Rattle.std.specs.Str.{bytes_eq}
-use Rattle.clap.specs.Words.{App, Kinds, Row, Rule, Text, fault_of, matches_of, new_app, new_rule, takes, with_rule}
+use Rattle.clap.specs.Words.{App, Kinds, Row, Rule, Text, fault_of, matches_of, new_app, new_rule}
+use Rattle.clap.specs.Words.{takes, with_rule}
 use Rattle.clap.specs.Simple.{on_top}
 use Rattle.clap.specs.declared.builder.action.ArgAction.TheVariants.{SetTrue}
 use Rattle.command_words.specs.declared.names.CommandName.{CommandName}
-use Rattle.command_words.specs.declared.names.CommandName.TheVariants.{Watch, Rewrite, Contain, Drill}
+use Rattle.command_words.specs.declared.names.CommandName.TheVariants.{Watch, Rewrite, Contain}
+use Rattle.command_words.specs.declared.names.CommandName.TheVariants.{Drill}
 
 -- the words as texts
 abbrev pub texts_of : List (String Global) → List Text

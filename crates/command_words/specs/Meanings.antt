@@ -1,5 +1,7 @@
 -- What the words of the command line mean.
-use Rattle.std.specs.Prelude.{◌==◌, ◌≡◌, ◌≤◌, ℕ, Bool, true, false, not, List, [], ◌∷◌, Option, Some, None, codes, if◌then◌else◌, is_some, option_and_then, option_map, unwrap_or, MatchResult, Result}
+use Rattle.std.specs.Prelude.{◌==◌, ◌≡◌, ◌≤◌, ℕ, Bool, true, false, not, List, [], ◌∷◌, Option}
+use Rattle.std.specs.Prelude.{Some, None, codes, if◌then◌else◌, is_some, option_and_then}
+use Rattle.std.specs.Prelude.{option_map, unwrap_or, MatchResult, Result}
 use Rattle.std.specs.Str.{bytes_eq}
 use Rattle.clap.specs.Words.{Row, Text, first_of}
 use Rattle.clap.specs.Walk.{is_empty}
@@ -20,7 +22,8 @@ use Rattle.command_words.specs.Commands.{are_taken, command_of, faults_in, rows_
 
 -- ---- what words ask for
 
--- a watch: the names of its files, the form of its stream, the form of its report, and whether the report tells the kept sizes
+-- a watch: the names of its files, the form of its stream, the form of its report, and whether the
+-- report tells the kept sizes
 pub record Watching : Type 0 where
   pub ontology : Text
   pub queries : Text
@@ -28,8 +31,8 @@ pub record Watching : Type 0 where
   pub report : ReportForm
   pub sizes : Bool
 
--- a watch, a rewriting of the queries by the ontology of these files, a test of the containment of these queries under
--- this ontology, or a drill of this seed and so many snapshots
+-- a watch, a rewriting of the queries by the ontology of these files, a test of the containment of
+-- these queries under this ontology, or a drill of this seed and so many snapshots
 pub data Meaning : Type 0 where
   watch : Watching → Meaning
   rewrite : Text → Text → Meaning

@@ -1,7 +1,10 @@
-// The arguments of each command, and what clap finds of them in words.
+//! The arguments of each command, and what clap finds of them in words.
+
 ghost use Rattle.std.specs.Prelude.{◌≡◌, ◌≢◌, [], IfOk, OnOk, false, true};
 ghost use Rattle.clap.specs.Words.{app_of, found_of, new_app, rows_of, rule_of};
-ghost use Rattle.command_words.specs.Commands.{app_of_command, are_taken, faults_in, flag_rule, place_rule, places_app, rows_in, texts_of, value_rule, without_help};
+ghost use Rattle.command_words.specs.Commands.{app_of_command, are_taken, faults_in, flag_rule};
+ghost use Rattle.command_words.specs.Commands.{place_rule, places_app, rows_in, texts_of};
+ghost use Rattle.command_words.specs.Commands.{value_rule, without_help};
 
 use crate::names::CommandName;
 use crate::request::WordsFault;

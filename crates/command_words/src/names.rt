@@ -1,7 +1,9 @@
-// The command that the words name.
+//! The command that the words name.
+
 ghost use Rattle.std.specs.Prelude.{◌≡◌, string_bytes};
 ghost use Rattle.std.specs.List.{list_any};
-ghost use Rattle.command_words.specs.Commands.{command_named, command_of, first_command, is_barred_word, texts_of};
+ghost use Rattle.command_words.specs.Commands.{command_named, command_of, first_command};
+ghost use Rattle.command_words.specs.Commands.{is_barred_word, texts_of};
 
 /// The commands.
 #[derive(Clone, Copy, Debug, PartialEq, Eq)]

@@ -1,8 +1,11 @@
-// The words of the command line, read.
+//! The words of the command line, read.
+
 ghost use Rattle.std.specs.Prelude.{◌≡◌, ◌≢◌, IfOk, true, is_some, Some};
 ghost use Rattle.command_words.specs.Commands.{are_taken, command_of, rows_in, texts_of};
-ghost use Rattle.command_words.specs.Meanings.{Answers, IsWithinLimits, MeansIfTaken, meaning_by, meaning_of, meaning_in, meaning_of_words};
-ghost use Rattle.command_words.specs.Canonical.{Canonical, IsCanonical, IsMeant, canonical_meaning, canonical_words};
+ghost use Rattle.command_words.specs.Meanings.{Answers, IsWithinLimits, MeansIfTaken, meaning_by};
+ghost use Rattle.command_words.specs.Meanings.{meaning_of, meaning_in, meaning_of_words};
+ghost use Rattle.command_words.specs.Canonical.{Canonical, IsCanonical, IsMeant, canonical_meaning};
+ghost use Rattle.command_words.specs.Canonical.{canonical_words};
 
 use crate::arguments::arguments_in;
 use crate::names::{CommandName, command_of};

@@ -1,4 +1,4 @@
-// What the words ask for.
+//! What the words ask for.
 
 use forms::{ReportForm, StreamForm};
 

@@ -1,7 +1,12 @@
-// What the values of the arguments mean.
+//! What the values of the arguments mean.
+
 ghost use Rattle.std.specs.Prelude.{◌≡◌, ◌≤◌, MatchOption, codes, option_map, unwrap_or};
 ghost use Rattle.clap.specs.Words.{first_of, found_of, rows_of};
-ghost use Rattle.command_words.specs.Meanings.{IsWithinLimits, contain_in, drill_in, file_in, file_of, is_file, meaning_in, meaning_of, number_in, report_form_in, report_form_of, rewrite_in, sizes_in, stream_form_in, stream_form_of, watch_in, watching_of};
+ghost use Rattle.command_words.specs.Meanings.{IsWithinLimits, contain_in, drill_in, file_in};
+ghost use Rattle.command_words.specs.Meanings.{file_of, is_file, meaning_in, meaning_of, number_in};
+ghost use Rattle.command_words.specs.Meanings.{report_form_in, report_form_of, rewrite_in};
+ghost use Rattle.command_words.specs.Meanings.{sizes_in, stream_form_in, stream_form_of, watch_in};
+ghost use Rattle.command_words.specs.Meanings.{watching_of};
 
 use crate::names::CommandName;
 use crate::numbers::read_number;

@@ -13,7 +13,8 @@ pub record IsLeastClash (ontology : Declared) (snapshot : List Fact) (number : �
   pub counted : number ≡ place + 1
   pub listed : slice_get ontology.clashes place ≡ Some clash
   pub met : IsMet ontology.inclusions snapshot clash
-  pub least : (earlier : ℕ) (c : Clash) → earlier < place → slice_get ontology.clashes earlier ≡ Some c → ¬ IsMet ontology.inclusions snapshot c
+  pub least : (earlier : ℕ) (c : Clash) → earlier < place
+      → slice_get ontology.clashes earlier ≡ Some c → ¬ IsMet ontology.inclusions snapshot c
 
 -- no run of the snapshot meets a clash
 abbrev pub IsConsistentUnder : Declared → List Fact → Type 0

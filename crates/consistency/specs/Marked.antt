@@ -17,4 +17,5 @@ IsMarkedAt m row e = IsRowOf m.width m.words.items row → HasMark m.width m.wor
 pub record AreApart (m : Marks) (one other : ℕ) : Type 0 where
   pub first : IsRowOf m.width m.words.items one
   pub second : IsRowOf m.width m.words.items other
-  pub apart : (e : Element) → HasMark m.width m.words.items one e → HasMark m.width m.words.items other e → ⊥
+  pub apart : (e : Element) → HasMark m.width m.words.items one e
+      → HasMark m.width m.words.items other e → ⊥

@@ -27,11 +27,14 @@ pub record KeepsMarks (old new : List ℕ) : Type 0 where
   pub kept : (k i : ℕ) → bit_at (slice_index old k) i ≡ 1 → bit_at (slice_index new k) i ≡ 1
   pub long : length new ≡ length old
 
--- the element stands in the fact at the place that has the row: a concept has one, and after the concepts come each role's first place and its second
+-- the element stands in the fact at the place that has the row: a concept has one, and after the
+-- concepts come each role's first place and its second
 abbrev pub StandsAt : ℕ → Fact → ℕ → Element → Type 0
 StandsAt concepts (fact.Concept c x) row e = (row ≡ c.0) × (e ≡ x)
-StandsAt concepts (fact.Role p x y) row e = ((row ≡ concepts + 2 * p.0) × (e ≡ x)) ⊎ ((row ≡ concepts + 2 * p.0 + 1) × (e ≡ y))
+StandsAt concepts (fact.Role p x y) row e =
+    ((row ≡ concepts + 2 * p.0) × (e ≡ x)) ⊎ ((row ≡ concepts + 2 * p.0 + 1) × (e ≡ y))
 
 -- each row that there is has the bit of the element at its place of the fact
 pub record IsMarked (concepts width : ℕ) (words : List ℕ) (f : Fact) : Type 0 where
-  pub each : (row : ℕ) (e : Element) → StandsAt concepts f row e → IsRowOf width words row → HasMark width words row e
+  pub each : (row : ℕ) (e : Element) → StandsAt concepts f row e → IsRowOf width words row
+      → HasMark width words row e

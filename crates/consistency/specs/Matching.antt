@@ -26,11 +26,14 @@ abbrev pub HasMatchIn : List Fact → Part → Rewriting → Type 0
 HasMatchIn facts part r = IsUnionAnswer facts (part_of part r) []
 
 -- no rewriting before the place has one
-pub record NoneBefore (facts : List Fact) (part : Part) (rewritings : List Rewriting) (place : ℕ) : Type 0 where
-  pub none : (k : ℕ) (r : Rewriting) → k < place → slice_get rewritings k ≡ Some r → HasMatchIn facts part r → ⊥
+pub record NoneBefore (facts : List Fact) (part : Part) (rewritings : List Rewriting)
+    (place : ℕ) : Type 0 where
+  pub none : (k : ℕ) (r : Rewriting) → k < place → slice_get rewritings k ≡ Some r
+      → HasMatchIn facts part r → ⊥
 
 -- the rewriting of the number, counted from 1, has one, and no earlier one has
-pub record IsFirstAt (facts : List Fact) (part : Part) (rewritings : List Rewriting) (number : ℕ) : Type 0 where
+pub record IsFirstAt (facts : List Fact) (part : Part) (rewritings : List Rewriting)
+    (number : ℕ) : Type 0 where
   pub place : ℕ
   pub counted : number ≡ place + 1
   pub rewriting : Rewriting
@@ -45,4 +48,5 @@ IsFirstMatch facts part rewritings (Some number) = IsFirstAt facts part rewritin
 
 -- both lists have the same facts of the predicates of what is asked
 abbrev pub AgreeOnPart : Part → List Rewriting → List Fact → List Fact → Type 0
-AgreeOnPart part rewritings facts other = (place : ℕ) (r : Rewriting) → slice_get rewritings place ≡ Some r → AgreeOnUnion (part_of part r) facts other
+AgreeOnPart part rewritings facts other = (place : ℕ) (r : Rewriting)
+    → slice_get rewritings place ≡ Some r → AgreeOnUnion (part_of part r) facts other

@@ -7,7 +7,8 @@ use Rattle.dl_syntax.specs.declared.queries.Cq.{Cq}
 use Rattle.dl_syntax.specs.Declaring.{IsDeclaredClash}
 use Rattle.dl_syntax.specs.Encode.{encode}
 use Rattle.dl_syntax.specs.Ontology.{Declared, most_clashes}
-use Rattle.perfect_ref.specs.Plain.{Encoded, Reachable, PlainReachable, PlainCore, IsPlain, Lists, HoldsOf}
+use Rattle.perfect_ref.specs.Plain.{Encoded, Reachable, PlainReachable, PlainCore, IsPlain, Lists}
+use Rattle.perfect_ref.specs.Plain.{HoldsOf}
 use Rattle.perfect_ref.specs.Counting.{ReachAll}
 use Rattle.consistency.specs.declared.rewriting.Rewriting.{Rewriting}
 use Rattle.dl_syntax.specs.declared.facts.Fact.{Fact}
@@ -27,7 +28,8 @@ IsRewriting e m r = IsRewritingOf e (query_of m) r
 abbrev pub IsPlainClash : ℕ → Clash → Type 0
 IsPlainClash roles m = IsPlain roles (query_of m)
 
--- the inclusions and clashes of an ontology of so many concepts and roles, the rewriting of each clash's query, and how many queries they reach in all
+-- the inclusions and clashes of an ontology of so many concepts and roles, the rewriting of each
+-- clash's query, and how many queries they reach in all
 pub record Prepared : Type 0 where
   pub concepts : ℕ
   pub roles : ℕ
@@ -45,7 +47,8 @@ cores_of p = map (λ r. r.core.items) p.rewritings
 
 -- both lists have the same facts of their predicates
 abbrev pub AgreeOnCores : Prepared → List Fact → List Fact → Type 0
-AgreeOnCores p facts other = (place : ℕ) (core : List Cq) → slice_get (cores_of p) place ≡ Some core → AgreeOnUnion core facts other
+AgreeOnCores p facts other = (place : ℕ) (core : List Cq) → slice_get (cores_of p) place ≡ Some core
+    → AgreeOnUnion core facts other
 
 pub record IsPrepared (p : Prepared) : Type 0 where
   pub declared : All (IsDeclaredClash p.concepts p.roles) p.clashes

@@ -1,3 +1,5 @@
+//! Clashes, prepared once for many snapshots.
+
 ghost use Rattle.std.specs.Prelude.{◌≡◌, ◌≤◌, ◌<◌, Some, length, slice_get, IfOk};
 ghost use Rattle.perfect_ref.specs.Plain.{encoded};
 ghost use Rattle.perfect_ref.specs.Counting.{ReachAll, ReachMore};

@@ -1,4 +1,5 @@
-// The first clash that is met.
+//! The first clash that is met.
+
 ghost use Rattle.std.specs.Prelude.{◌↔◌, ◌≤◌, [], length, IfOk, IsTrue, List};
 ghost use Rattle.std.specs.List.{All};
 ghost use Rattle.dl_syntax.specs.declared.facts.Fact.{Fact};
@@ -88,22 +89,29 @@ fn first_match(
     Ok(None)
 }
 
-/// The least number, counted from 1, of a clash that some run of the index's facts meets, and none exactly where they are consistent.
-/// That is so under each ontology for which the clashes were prepared and which declares the facts' predicates, where the facts hold no null.
+/// The least number, counted from 1, of a clash that some run of the index's facts meets, and none
+/// exactly where they are consistent. That is so under each ontology for which the clashes were
+/// prepared and which declares the facts' predicates, where the facts hold no null.
 pub fn first_clash(alloc: Global, clashes: &Clashes, index: &Index) -> Result<Option<u32>, Memory>
-    ensures { IfOk result (λ first. (o : Declared) → IsPreparedFor clashes.now o → IsOverOntology o index.now → IsFirstClash o index.now first) }
+    ensures { IfOk result (λ first. (o : Declared) → IsPreparedFor clashes.now o
+        → IsOverOntology o index.now → IsFirstClash o index.now first) }
 {
     let marks = clashes.marks(alloc, index.facts())?;
     first_match(alloc, clashes.rewritings(), Part::Whole, index, &marks)
 }
 
-/// The same over the index of a saturated snapshot, which has exactly the facts over individuals that some run of the snapshot holds: the least number of a clash that some run of the snapshot meets, and none exactly where the snapshot is consistent. A clash that is met at nulls alone counts too. The index may lack facts of predicates that no core names, or have others.
+/// The same over the index of a saturated snapshot, which has exactly the facts over individuals
+/// that some run of the snapshot holds: the least number of a clash that some run of the snapshot
+/// meets, and none exactly where the snapshot is consistent. A clash that is met at nulls alone
+/// counts too. The index may lack facts of predicates that no core names, or have others.
 pub fn first_clash_closed(
     alloc: Global,
     clashes: &Clashes,
     index: &Index,
 ) -> Result<Option<u32>, Memory>
-    ensures { IfOk result (λ first. (o : Declared) (snapshot facts : List Fact) → IsPreparedFor clashes.now o → IsOverOntology o snapshot → IsSaturated o snapshot facts → AgreeOnCores clashes.now facts index.now → IsFirstClash o snapshot first) }
+    ensures { IfOk result (λ first. (o : Declared) (snapshot facts : List Fact)
+        → IsPreparedFor clashes.now o → IsOverOntology o snapshot → IsSaturated o snapshot facts
+        → AgreeOnCores clashes.now facts index.now → IsFirstClash o snapshot first) }
 {
     let marks = clashes.marks(alloc, index.facts())?;
     first_match(alloc, clashes.rewritings(), Part::Core, index, &marks)

@@ -1,4 +1,6 @@
-//! Contradictions of a snapshot under an ontology, found by rewriting (Calvanese, De Giacomo, Lembo, Lenzerini and Rosati 2007): a clash is met exactly where its query, both sides at one existential variable or pair, is certain.
+//! Contradictions of a snapshot under an ontology, found by rewriting (Calvanese, De Giacomo,
+//! Lembo, Lenzerini and Rosati 2007): a clash is met exactly where its query, both sides at one
+//! existential variable or pair, is certain.
 #![tactic(auto)]
 
 mod clashes;

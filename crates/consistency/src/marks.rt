@@ -1,4 +1,5 @@
-// Which elements stand at the places of predicates, to see quickly that a query has no match.
+//! Which elements stand at the places of predicates, to see quickly that a query has no match.
+
 ghost use Rattle.std.specs.Prelude.{◌≡◌, ◌<◌, ◌≤◌, ◌^◌};
 ghost use Rattle.std.specs.List.{All};
 ghost use Rattle.consistency.specs.Marking.{number_of, IsRowOf, HasMark, KeepsMarks, IsMarked};
@@ -6,8 +7,10 @@ ghost use Rattle.consistency.specs.Marking.{number_of, IsRowOf, HasMark, KeepsMa
 use dl_syntax::{Element, Fact, Memory};
 use std::alloc::Global;
 
-/// A row of bits for each concept, for each role's first place and for each role's second place, one after the other.
-/// A bit is 1 wherever an element that has it stands there. An element's bit is its number modulo the row's length, so elements may share one: rows without a common bit have no common element.
+/// A row of bits for each concept, for each role's first place and for each role's second place,
+/// one after the other. A bit is 1 wherever an element that has it stands there. An element's bit
+/// is its number modulo the row's length, so elements may share one: rows without a common bit have
+/// no common element.
 #[derive(Drop)]
 pub(crate) struct Marks {
     pub concepts: usize,
@@ -85,7 +88,8 @@ fn greatest(facts: &[Fact]) -> usize {
     greatest
 }
 
-// How many words a row has: so many that few elements share a bit, and no more than the facts are worth.
+// How many words a row has: so many that few elements share a bit, and no more than the facts are
+// worth.
 fn width_of(facts: &[Fact]) -> usize
     ensures some { 1 ≤ result }
     ensures few { result ≤ 64 }

@@ -1,4 +1,5 @@
-// Whether two roles have a pair in common, by a walk through both in one order.
+//! Whether two roles have a pair in common, by a walk through both in one order.
+
 ghost use Rattle.std.specs.Prelude.{◌≡◌, ◌≤◌, false, length, List, Contains, IsTrue, if◌then◌else◌};
 ghost use Rattle.dl_syntax.specs.declared.facts.Element.{Element};
 ghost use Rattle.dl_syntax.specs.declared.facts.Fact.{Fact};
@@ -40,7 +41,8 @@ fn order(one: &Fact, other: &Fact) -> Ordering
 fn have_common(id: RoleId, one: &[Fact], other: &[Fact], turned: bool) -> bool
     requires first { Rises id false one.now }
     requires second { Rises id turned other.now }
-    ensures { result ≡ false → (f g : Fact) → Contains one.now f → Contains other.now g → fact_of id false f ≡ fact_of id turned g → ⊥ }
+    ensures { result ≡ false → (f g : Fact) → Contains one.now f → Contains other.now g
+        → fact_of id false f ≡ fact_of id turned g → ⊥ }
 {
     let mut left = 0;
     let mut right = 0;
@@ -60,9 +62,11 @@ fn are_uneven(one: usize, other: usize) -> bool {
     one / UNEVEN > other || other / UNEVEN > one
 }
 
-// Whether the walk shows that no pair of the first role is one of the second, turned where that is asked.
+// Whether the walk shows that no pair of the first role is one of the second, turned where that is
+// asked.
 fn lack_common(index: &Index, first: RoleId, second: RoleId, turned: bool) -> bool
-    ensures { IsTrue result → (x y : Element) → Contains index.now (fact.Role first x y) → Contains index.now (if turned then fact.Role second y x else fact.Role second x y) → ⊥ }
+    ensures { IsTrue result → (x y : Element) → Contains index.now (fact.Role first x y)
+        → Contains index.now (if turned then fact.Role second y x else fact.Role second x y) → ⊥ }
 {
     let one = index.role(first, false);
     let other = index.role(second, turned);
@@ -79,7 +83,9 @@ fn lack_straight(
     z: Term,
     w: Term,
 ) -> bool
-    ensures { IsTrue result → (t : Assignment) → Contains index.now (fact.Role first (term_at t x) (term_at t y)) → Contains index.now (fact.Role second (term_at t z) (term_at t w)) → ⊥ }
+    ensures { IsTrue result → (t : Assignment)
+        → Contains index.now (fact.Role first (term_at t x) (term_at t y))
+        → Contains index.now (fact.Role second (term_at t z) (term_at t w)) → ⊥ }
 {
     if !is_same(&x, &z) {
         return false;
@@ -100,7 +106,9 @@ fn lack_turned(
     z: Term,
     w: Term,
 ) -> bool
-    ensures { IsTrue result → (t : Assignment) → Contains index.now (fact.Role first (term_at t x) (term_at t y)) → Contains index.now (fact.Role second (term_at t z) (term_at t w)) → ⊥ }
+    ensures { IsTrue result → (t : Assignment)
+        → Contains index.now (fact.Role first (term_at t x) (term_at t y))
+        → Contains index.now (fact.Role second (term_at t z) (term_at t w)) → ⊥ }
 {
     if !is_same(&x, &w) {
         return false;
@@ -113,7 +121,8 @@ fn lack_turned(
 
 // Whether the walk shows that no facts become the two atoms at once.
 fn lack_facts(index: &Index, one: Atom, other: Atom) -> bool
-    ensures { IsTrue result → (t : Assignment) → Contains index.now (atom_at t one) → Contains index.now (atom_at t other) → ⊥ }
+    ensures { IsTrue result → (t : Assignment) → Contains index.now (atom_at t one)
+        → Contains index.now (atom_at t other) → ⊥ }
 {
     match (one, other) {
         (Atom::Role(first, x, y), Atom::Role(second, z, w)) => {
@@ -124,7 +133,8 @@ fn lack_facts(index: &Index, one: Atom, other: Atom) -> bool
     }
 }
 
-/// Whether the walk shows that a body of two role atoms at one pair of terms has no match among the facts.
+/// Whether the walk shows that a body of two role atoms at one pair of terms has no match among the
+/// facts.
 pub(crate) fn lacks_pair(index: &Index, body: &[Atom]) -> bool
     ensures { IsTrue result → (t : Assignment) → Match body.now index.now t → ⊥ }
 {

@@ -1,4 +1,5 @@
-// The query of a clash.
+//! The query of a clash.
+
 ghost use Rattle.std.specs.Prelude.{◌≡◌, IfOk};
 ghost use Rattle.consistency.specs.Asking.{pair_atom as pair_of, side_atom as side_of, query_of};
 
@@ -16,7 +17,8 @@ fn pair_atom(role: Role, first: u16, second: u16) -> Atom
     }
 }
 
-// The first variable is in the basic concept, by a pair with the second one where that is `some` of a role.
+// The first variable is in the basic concept, by a pair with the second one where that is `some` of
+// a role.
 fn side_atom(basic: Basic, variable: u16, partner: u16) -> Atom
     ensures { result ≡ side_of basic variable partner }
 {
@@ -26,7 +28,8 @@ fn side_atom(basic: Basic, variable: u16, partner: u16) -> Atom
     }
 }
 
-/// The query that asks whether the clash is met: an empty head and both sides at one variable, or at one pair of them.
+/// The query that asks whether the clash is met: an empty head and both sides at one variable, or
+/// at one pair of them.
 pub fn query(alloc: Global, clash: &Clash) -> Result<Cq, Memory>
     ensures { IfOk result (λ q. q ≡ query_of clash.now) }
 {

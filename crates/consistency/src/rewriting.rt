@@ -1,4 +1,5 @@
-// The rewritings of the clashes' queries.
+//! The rewritings of the clashes' queries.
+
 ghost use Rattle.std.specs.Prelude.{◌≡◌, ◌≤◌, IfOk};
 ghost use Rattle.std.specs.List.{All, AllZip};
 ghost use Rattle.dl_syntax.specs.Queries.{IsQuery};

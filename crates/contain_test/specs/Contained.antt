@@ -22,8 +22,7 @@ pub record IsQueryOf (o : Declared) (q : Cq) : Type 0 where
   pub individuals : IsBelow (length o.individuals) q
 
 -- in each consistent snapshot, over the declared individuals and any further ones, each answer of
--- the first query is one
--- of the second
+-- the first query is one of the second
 abbrev pub IsContainedUnder : Declared → Cq → Cq → Type 0
 IsContainedUnder o first second =
     (snapshot : List Fact) (row : List IndId)
@@ -48,7 +47,8 @@ abbrev pub IsShown : Declared → Cq → Cq → Containment → Type 0
 IsShown o first second Yes = Unit {0}
 IsShown o first second (No facts row) = Separates o first second facts row
 
--- yes exactly where the first query is contained in the second, and what is said against containment shows it
+-- yes exactly where the first query is contained in the second, and what is said against
+-- containment shows it
 pub record IsExact (o : Declared) (first second : Cq) (c : Containment) : Type 0 where
   pub exact : (c ≡ Yes) ↔ IsContainedUnder o first second
   pub shown : IsShown o first second c

@@ -18,8 +18,7 @@ pub struct Asked {
 }
 
 /// What is asked for the query. `TooManyRewritings` comes exactly where the query and the clashes
-/// reach more than `room`
-/// queries in all.
+/// reach more than `room` queries in all.
 pub fn asked_for(
     alloc: Global,
     ontology: &Ontology,

@@ -1,6 +1,5 @@
 //! Whether a row is among the answers of a query, without the other answers: the head is bound to
-//! the row, and a match of
-//! the body is sought.
+//! the row, and a match of the body is sought.
 ghost use Rattle.std.specs.Prelude.{◌≡◌, ◌↔◌, ◌≤◌, [], length, map, IsTrue, IfOk};
 ghost use Rattle.std.specs.List.{All};
 ghost use Rattle.dl_syntax.specs.Queries.{IsQuery};

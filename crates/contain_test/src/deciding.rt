@@ -20,8 +20,7 @@ use perfect_ref::RewriteFault;
 use std::alloc::Global;
 
 /// Whether a query is contained in another. Where it is not, a consistent snapshot and an answer of
-/// the first query in it
-/// that is none of the second.
+/// the first query in it that is none of the second.
 #[derive(Debug, Drop)]
 pub enum Containment {
     Yes,
@@ -81,13 +80,10 @@ pub fn contain_by(
 }
 
 /// Whether, in each consistent snapshot under the ontology, over the declared individuals and any
-/// further ones, each
-/// answer of the first query is one of the second: `Yes` exactly where that is so. Elsewhere `No`
-/// holds the frozen first
-/// query, which is consistent, and its row.
+/// further ones, each answer of the first query is one of the second: `Yes` exactly where that is
+/// so. Elsewhere `No` holds the frozen first query, which is consistent, and its row.
 /// `TooManyRewritings` comes exactly where the second query and the clashes reach more than `room`
-/// queries in all, each
-/// counted by itself.
+/// queries in all, each counted by itself.
 pub fn contain(
     alloc: Global,
     ontology: &Ontology,

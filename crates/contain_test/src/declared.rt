@@ -54,8 +54,7 @@ fn have_predicates(concepts: u32, roles: u32, body: &[Atom]) -> bool
 }
 
 /// Whether the query has 1 to 8 atoms, its head's variables stand in its body, and the ontology
-/// declares each concept,
-/// role and individual that it names. Takes no memory.
+/// declares each concept, role and individual that it names. Takes no memory.
 pub fn is_query_of(ontology: &Ontology, query: &Cq) -> bool
     ensures { IsTrue result ↔ IsQueryOf ontology.now query.now }
 {

@@ -90,8 +90,7 @@ fn frozen_normal(alloc: Global, count: u32, query: &Cq) -> Result<Frozen, Memory
 }
 
 /// The normal form of a query, frozen: variable `n` is the individual numbered `count + n`. The
-/// individuals of the query
-/// have numbers below `count`.
+/// individuals of the query have numbers below `count`.
 pub fn freeze(alloc: Global, count: u32, query: &Cq) -> Result<Frozen, Memory>
     requires few { count ≤ 4096 }
     requires query { IsQuery query.now }

@@ -20,10 +20,14 @@ pub record IsSaturation (inclusions : List Inclusion) (snapshot facts : List Fac
   pub sound : (f : Fact) → Contains facts f → HasNoNull f × IsReached inclusions snapshot f
   pub complete : (f : Fact) → HasNoNull f → IsReached inclusions snapshot f → Contains facts f
 
--- exactly the facts over individuals, concepts and roles of the ontology that some run of the snapshot has
+-- exactly the facts over individuals, concepts and roles of the ontology that some run of the
+-- snapshot has
 pub record IsSaturated (o : Declared) (snapshot facts : List Fact) : Type 0 where
-  pub sound : (f : Fact) → Contains facts f → HasNoNull f × IsDeclaredFact (length o.concepts) (length o.roles) f × IsReached o.inclusions snapshot f
-  pub complete : (f : Fact) → HasNoNull f → IsDeclaredFact (length o.concepts) (length o.roles) f → IsReached o.inclusions snapshot f → Contains facts f
+  pub sound : (f : Fact) → Contains facts f
+      → HasNoNull f × IsDeclaredFact (length o.concepts) (length o.roles) f
+      × IsReached o.inclusions snapshot f
+  pub complete : (f : Fact) → HasNoNull f → IsDeclaredFact (length o.concepts) (length o.roles) f
+      → IsReached o.inclusions snapshot f → Contains facts f
 
 -- the inclusion makes nulls
 abbrev pub MakesNulls : Inclusion → Type 0

@@ -1,4 +1,7 @@
-ghost use Rattle.std.specs.Prelude.{◌≡◌, ◌≢◌, ◌≤◌, ◌<◌, ◌-◌, ◌^◌, ◌++◌, ◌↔◌, [], List, length, IfOk, IfSome, OnErr, IsTrue};
+//! One step of the chase, by places.
+
+ghost use Rattle.std.specs.Prelude.{◌≡◌, ◌≢◌, ◌≤◌, ◌<◌, ◌-◌, ◌^◌, ◌++◌, ◌↔◌, [], List, length};
+ghost use Rattle.std.specs.Prelude.{IfOk, IfSome, OnErr, IsTrue};
 ghost use Rattle.dl_syntax.specs.declared.facts.Fact.{Fact};
 ghost use Rattle.dl_syntax.specs.Chase.{made_by as made_of_fact, Run};
 ghost use Rattle.dl_syntax.specs.Growing.{facts_of, made_at};
@@ -59,7 +62,8 @@ fn append(run: &mut Vec<Fact>, made: Made) -> Result<bool, Memory>
     }
 }
 
-/// Continues the run by what the inclusion of this number, counted from 1, makes of the fact at the place.
+/// Continues the run by what the inclusion of this number, counted from 1, makes of the fact at the
+/// place.
 fn extend(
     inclusions: &[Inclusion],
     run: &mut Vec<Fact>,
@@ -70,8 +74,10 @@ fn extend(
     requires numbered { 1 ≤ inclusion }
     requires listed { inclusion ≤ length inclusions.now }
     requires room { length run.old.items < 2 ^ 32 - 2 }
-    ensures ok { IfOk result (λ grows. run.new.items ≡ run.old.items ++ made_at inclusions.now run.old.items from inclusion) }
-    ensures grows { IfOk result (λ grows. IsTrue grows ↔ (made_at inclusions.now run.old.items from inclusion ≢ [])) }
+    ensures ok { IfOk result (λ grows. run.new.items
+        ≡ run.old.items ++ made_at inclusions.now run.old.items from inclusion) }
+    ensures grows { IfOk result (λ grows. IsTrue grows
+        ↔ (made_at inclusions.now run.old.items from inclusion ≢ [])) }
     ensures err { OnErr result (run.new.items ≡ run.old.items) }
 {
     let place = run.len() as u32;
@@ -81,8 +87,9 @@ fn extend(
     append(run, made)
 }
 
-/// Continues the run by what the inclusion of this number, counted from 1, makes of the fact at the place: one step of the chase of Calvanese et al. (2007).
-/// Answers whether that is anything. On `false` and on `Memory` the run is as before, and a run of a snapshot stays one.
+/// Continues the run by what the inclusion of this number, counted from 1, makes of the fact at the
+/// place: one step of the chase of Calvanese et al. (2007). Answers whether that is anything. On
+/// `false` and on `Memory` the run is as before, and a run of a snapshot stays one.
 pub fn extend_run(
     ontology: &Ontology,
     run: &mut Vec<Fact>,
@@ -93,10 +100,13 @@ pub fn extend_run(
     requires numbered { 1 ≤ inclusion }
     requires listed { inclusion ≤ length ontology.now.inclusions }
     requires room { length run.old.items < 2 ^ 32 - 2 }
-    ensures ok { IfOk result (λ grows. run.new.items ≡ run.old.items ++ made_at ontology.now.inclusions run.old.items from inclusion) }
-    ensures grows { IfOk result (λ grows. IsTrue grows ↔ (made_at ontology.now.inclusions run.old.items from inclusion ≢ [])) }
+    ensures ok { IfOk result (λ grows. run.new.items
+        ≡ run.old.items ++ made_at ontology.now.inclusions run.old.items from inclusion) }
+    ensures grows { IfOk result (λ grows. IsTrue grows
+        ↔ (made_at ontology.now.inclusions run.old.items from inclusion ≢ [])) }
     ensures err { OnErr result (run.new.items ≡ run.old.items) }
-    ensures stays { (snapshot : List Fact) → Run ontology.now.inclusions snapshot run.old.items → Run ontology.now.inclusions snapshot run.new.items }
+    ensures stays { (snapshot : List Fact) → Run ontology.now.inclusions snapshot run.old.items
+        → Run ontology.now.inclusions snapshot run.new.items }
 {
     extend(ontology.inclusions(), run, from, inclusion)
 }

@@ -47,10 +47,13 @@ equal_of Equal h = refl
 equal_of Greater h = cc
 
 pub exact_elements : CmpEqualImpliesEq element_cmp
-exact_elements (element.Ind a) (element.Ind b) h = ap (λ (n : ℕ). element.Ind (record { 0 = n })) (exact_unsigned a.0 b.0 (equal_first (nat_cmp a.0 b.0) h))
+exact_elements (element.Ind a) (element.Ind b) h =
+    ap (λ (n : ℕ). element.Ind (record { 0 = n }))
+    (exact_unsigned a.0 b.0 (equal_first (nat_cmp a.0 b.0) h))
 exact_elements (element.Ind a) (element.Null n) h = cc
 exact_elements (element.Null m) (element.Ind b) h = cc
-exact_elements (element.Null m) (element.Null n) h = ap (λ (n : ℕ). element.Null n) (exact_unsigned m n (equal_first (nat_cmp m n) h))
+exact_elements (element.Null m) (element.Null n) h =
+    ap (λ (n : ℕ). element.Null n) (exact_unsigned m n (equal_first (nat_cmp m n) h))
 
 pub exact_facts : CmpEqualImpliesEq fact_cmp
 exact_facts (fact.Concept c x) (fact.Concept d y) h =
@@ -61,11 +64,14 @@ exact_facts (fact.Concept c x) (fact.Role q z w) h = cc
 exact_facts (fact.Role p x y) (fact.Concept d z) h = cc
 exact_facts (fact.Role p x y) (fact.Role q z w) h =
     let o : Ordering = ordering_then (element_cmp x z) (element_cmp y w) in
-    let e : p.0 ≡ q.0 = exact_unsigned p.0 q.0 (then_first (nat_cmp p.0 q.0) (ordering_then (element_cmp x z) (element_cmp y w)) h) in
-    let s : ordering_then (element_cmp x z) (element_cmp y w) ≡ Equal = then_second (nat_cmp p.0 q.0) (ordering_then (element_cmp x z) (element_cmp y w)) h in
+    let e : p.0 ≡ q.0 = exact_unsigned p.0 q.0
+    (then_first (nat_cmp p.0 q.0) (ordering_then (element_cmp x z) (element_cmp y w)) h) in
+    let s : ordering_then (element_cmp x z) (element_cmp y w) ≡ Equal =
+    then_second (nat_cmp p.0 q.0) (ordering_then (element_cmp x z) (element_cmp y w)) h in
     let f : x ≡ z = exact_elements x z (then_first (element_cmp x z) (element_cmp y w) s) in
     let g : y ≡ w = exact_elements y w (then_second (element_cmp x z) (element_cmp y w) s) in
-    ap (λ (n : ℕ). fact.Role (record { 0 = n }) x y) e ∙ (ap (λ (u : Element). fact.Role q u y) f ∙ ap (λ (u : Element). fact.Role q z u) g)
+    ap (λ (n : ℕ). fact.Role (record { 0 = n }) x y)
+    e ∙ (ap (λ (u : Element). fact.Role q u y) f ∙ ap (λ (u : Element). fact.Role q z u) g)
 
 pub element_eq-same : (a b : Element) → element_eq a b ≡ true → a ≡ b
 element_eq-same a b h = exact_elements a b (equal_of (element_cmp a b) h)
@@ -86,12 +92,15 @@ fact_eq-same a b h = exact_facts a b (equal_of (fact_cmp a b) (sym (fact_eq-ties
 pub fact_eq-equiv : IsEquivalence fact_eq
 fact_eq-equiv = record {
   refl = λ x. fact_eq-ties x x ∙ ap is_eq (tied_itself fact_cmp-total x);
-  symm = λ x y. fact_eq-ties x y ∙ ((eq_by_cmp_equiv fact_cmp-total).symm x y ∙ sym (fact_eq-ties y x));
-  congr = λ x y z h. fact_eq-ties x z ∙ ((eq_by_cmp_equiv fact_cmp-total).congr x y z (sym (fact_eq-ties x y) ∙ h) ∙ sym (fact_eq-ties y z));
+  symm = λ x y. fact_eq-ties x y ∙ ((eq_by_cmp_equiv fact_cmp-total).symm x y ∙ sym
+      (fact_eq-ties y x));
+  congr = λ x y z h. fact_eq-ties x z ∙ ((eq_by_cmp_equiv fact_cmp-total).congr x y z
+      (sym (fact_eq-ties x y) ∙ h) ∙ sym (fact_eq-ties y z));
 }
 
 -- a strictly rising list is sorted
-pub sorted_from_strict : {K : Type 0} {R : K → K → Ordering} (o : IsTotalOrder R) (xs : List K) → IsStrictlySortedBy R xs → IsSorted R xs
+pub sorted_from_strict : {K : Type 0} {R : K → K → Ordering} (o : IsTotalOrder R) (xs : List K)
+    → IsStrictlySortedBy R xs → IsSorted R xs
 sorted_from_strict o [] h k d lo hi = absurd (omega arith)
 sorted_from_strict {R = R} o (x ∷ xs) h zero d lo hi =
     let less : R x (get_or xs 0 d) ≡ Less = All-after_first R x xs h 0 d (omega arith) in

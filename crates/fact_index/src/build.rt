@@ -10,7 +10,8 @@ use std::alloc::Global;
 
 /// The index of the snapshot's facts, seen as these facts in rising order.
 pub fn index(alloc: Global, snapshot: &Snapshot) -> Result<Index, Memory>
-    ensures members { IfOk result (λ index. (f : Fact) → Contains index f ↔ Contains snapshot.now f) }
+    ensures members { IfOk result (λ index. (f : Fact)
+        → Contains index f ↔ Contains snapshot.now f) }
     ensures rising { IfOk result (IsStrictlySortedBy fact_cmp) }
 {
     let mut sorted = Vec::from_slice(alloc, snapshot.facts())?;

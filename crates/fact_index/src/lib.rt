@@ -5,7 +5,8 @@ ghost use Rattle.std.specs.Prelude.{◌≡◌, ◌↔◌, false, true, IsTrue, C
 ghost use Rattle.std.specs.List.{filter};
 ghost use Rattle.dl_syntax.specs.declared.facts.Fact.{Fact};
 ghost use Rattle.std.specs.List.Sorted.{IsStrictlySortedBy, IsSortedByKey};
-ghost use Rattle.fact_index.specs.Order.{fact_cmp, last_cmp, element_cmp, first_of, last_of, is_of_concept, is_of_role};
+ghost use Rattle.fact_index.specs.Order.{fact_cmp, last_cmp, element_cmp, first_of, last_of};
+ghost use Rattle.fact_index.specs.Order.{is_of_concept, is_of_role};
 
 use dl_syntax::{ConceptId, Fact, RoleId};
 use std::marker::Model;
@@ -16,7 +17,9 @@ mod runs;
 
 pub use runs::{with_first, with_last};
 
-/// The facts of a snapshot, to be looked up by predicate and by place, seen as their list in rising order: the concepts' facts by concept and element, then the roles' by role, first place and second place.
+/// The facts of a snapshot, to be looked up by predicate and by place, seen as their list in rising
+/// order: the concepts' facts by concept and element, then the roles' by role, first place and
+/// second place.
 #[derive(Debug, Drop)]
 pub struct Index {
     facts: Vec<Fact>,
@@ -70,10 +73,12 @@ impl Index {
         runs::concept_run(self.facts.as_slice(), id)
     }
 
-    /// The facts of the role, each once, by the first place and then the second, or with `inverse` by the second and then the first. Takes no memory.
+    /// The facts of the role, each once, by the first place and then the second, or with `inverse`
+    /// by the second and then the first. Takes no memory.
     pub fn role(&self, id: RoleId, inverse: bool) -> &[Fact]
         ensures facts { inverse ≡ false → result.now ≡ filter (is_of_role id) self.now }
-        ensures members { (f : Fact) → Contains result.now f ↔ Contains (filter (is_of_role id) self.now) f }
+        ensures members { (f : Fact)
+            → Contains result.now f ↔ Contains (filter (is_of_role id) self.now) f }
         ensures rising { inverse ≡ false → IsStrictlySortedBy fact_cmp result.now }
         ensures last_rising { inverse ≡ true → IsStrictlySortedBy last_cmp result.now }
         ensures by_first { inverse ≡ false → IsSortedByKey first_of element_cmp result.now }

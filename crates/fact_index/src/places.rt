@@ -1,4 +1,5 @@
-// The elements of a fact.
+//! The elements of a fact.
+
 ghost use Rattle.std.specs.Prelude.{◌≡◌};
 ghost use Rattle.fact_index.specs.Order.{first_of, last_of};
 

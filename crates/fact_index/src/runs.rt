@@ -1,10 +1,11 @@
-// Runs of facts in ordered slices.
+//! Runs of facts in ordered slices.
 
 ghost use Rattle.std.specs.Prelude.{◌≡◌, not};
 ghost use Rattle.std.specs.List.{filter};
 ghost use Rattle.std.specs.Ordering.{is_lt};
 ghost use Rattle.std.specs.List.Sorted.{IsStrictlySortedBy, IsSortedByKey};
-ghost use Rattle.fact_index.specs.Order.{fact_cmp, last_cmp, element_cmp, element_eq, first_of, last_of, is_of_concept, is_of_role, turned_of};
+ghost use Rattle.fact_index.specs.Order.{fact_cmp, last_cmp, element_cmp, element_eq, first_of};
+ghost use Rattle.fact_index.specs.Order.{last_of, is_of_concept, is_of_role, turned_of};
 ghost use Rattle.fact_index.specs.Index.{is_role, is_before_concept, is_before_role};
 
 use crate::places::{first, last};
@@ -138,7 +139,8 @@ fn has_last(fact: &Fact, element: Element) -> bool
     last(fact).cmp(&element).is_eq()
 }
 
-/// Those of the facts, which are ordered by the first place, that have the element there. Takes no memory.
+/// Those of the facts, which are ordered by the first place, that have the element there. Takes no
+/// memory.
 pub fn with_first(facts: &[Fact], element: Element) -> &[Fact]
     requires { IsSortedByKey first_of element_cmp facts.now }
     ensures { result.now ≡ filter (λ f. element_eq (first_of f) element) facts.now }
@@ -149,7 +151,8 @@ pub fn with_first(facts: &[Fact], element: Element) -> &[Fact]
     &rest[..count]
 }
 
-/// Those of the facts, which are ordered by the last place, that have the element there. Takes no memory.
+/// Those of the facts, which are ordered by the last place, that have the element there. Takes no
+/// memory.
 pub fn with_last(facts: &[Fact], element: Element) -> &[Fact]
     requires { IsSortedByKey last_of element_cmp facts.now }
     ensures { result.now ≡ filter (λ f. element_eq (last_of f) element) facts.now }

@@ -1,3 +1,3 @@
-pub mod Chains
+pub mod Antichains
 pub mod Remembered
 pub mod Lists

@@ -1,19 +1,21 @@
--- A list of distinct chains with one more.
+-- A list of distinct antichains with one more.
 use Rattle.std.specs.Prelude.{◌≡◌, ◌≢◌, ℕ, nat_eq, if◌then◌else◌, List, [], ◌∷◌, ◌++◌, fold}
 use Rattle.std.specs.List.{list_any, AllPairs}
 use Rattle.std.specs.Cmp.Lexicographic.{pointwise}
 
--- the list stays where it has the chain, else the chain goes last
+-- the list stays where it has the antichain, else the antichain goes last
 abbrev pub interned : List (List ℕ) → List ℕ → List (List ℕ)
-interned chains chain = (if list_any (pointwise nat_eq chain) chains then chains else chains ++ chain ∷ [])
+interned antichains antichain =
+    (if list_any (pointwise nat_eq antichain) antichains then antichains else antichains
+    ++ antichain ∷ [])
 
 -- the list after each of these goes in
 abbrev pub interned_all : List (List ℕ) → List (List ℕ) → List (List ℕ)
-interned_all chains more = fold interned chains more
+interned_all antichains more = fold interned antichains more
 
--- no chain is there twice
+-- no antichain is there twice
 abbrev pub AreDistinct : List (List ℕ) → Type 0
-AreDistinct chains = AllPairs (λ a b. a ≢ b) chains
+AreDistinct antichains = AllPairs (λ a b. a ≢ b) antichains
 
 -- the second list begins with the first
 abbrev pub Extends : List (List ℕ) → List (List ℕ) → Type 0

@@ -1,8 +1,8 @@
-//! What holds of all lists of chains.
+//! What holds of all lists of antichains.
 
 ghost use Rattle.formula_store.specs.Laws.{Generation};
 
-/// The list that chains go into one after another has exactly these chains, each once.
+/// The list that antichains go into one after another has exactly these antichains, each once.
 pub fn generation()
     ensures { Generation }
 {}

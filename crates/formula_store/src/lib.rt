@@ -1,4 +1,4 @@
-//! A store of chains, each kept once.
+//! A store of antichains, each kept once.
 #![tactic(auto)]
 
 pub mod laws;

@@ -1,28 +1,36 @@
+//! Tests of the public calls, and the worked examples.
+
 use crate::Memory;
 use crate::link::Link;
 use crate::store::Store;
-use antichains::{Chain, from_sets};
+use antichains::{Antichain, from_sets};
 
 #[test]
-fn keeps_each_chain_once(rt: HostRuntime) -> Result<(), Memory> {
+fn keeps_each_antichain_once(rt: HostRuntime) -> Result<(), Memory> {
     let alloc = rt.alloc();
     let mut store = Store::new(alloc);
     let one = store.intern(from_sets(alloc, &[1])?)?;
-    let none = store.intern(Chain::fixed(alloc, false)?)?;
+    let none = store.intern(Antichain::fixed(alloc, false)?)?;
     let again = store.intern(from_sets(alloc, &[1])?)?;
-    assert_eq!(rt; again.chain().sets(), [1].as_slice());
+    assert_eq!(rt; again.antichain().sets(), [1].as_slice());
     assert_eq!(rt; store.links().len(), 2);
-    assert_eq!(rt; store.clauses(), 1);
+    assert_eq!(rt; store.set_count(), 1);
 
-    assert_eq!(rt; store.both(&one, &none)?.chain().sets(), [].as_slice());
-    assert_eq!(rt; store.either(&one, &none)?.chain().sets(), [1].as_slice());
-    assert_eq!(rt; store.either(&one, &none)?.chain().sets(), [1].as_slice());
+    assert_eq!(rt; store.both(&one, &none)?.antichain().sets(), [].as_slice());
+    assert_eq!(rt;
+        store.either(&one, &none)?.antichain().sets(),
+        [1].as_slice()
+    );
+    assert_eq!(rt;
+        store.either(&one, &none)?.antichain().sets(),
+        [1].as_slice()
+    );
     assert_eq!(rt; store.links().len(), 2);
 
     let two = store.intern(from_sets(alloc, &[2])?)?;
-    assert_eq!(rt; two.chain().sets(), [2].as_slice());
+    assert_eq!(rt; two.antichain().sets(), [2].as_slice());
     assert_eq!(rt; store.links().len(), 3);
-    assert_eq!(rt; store.clauses(), 2);
+    assert_eq!(rt; store.set_count(), 2);
     assert_eq!(rt; store.place(&two), Some(2));
     Ok(())
 }
@@ -32,13 +40,13 @@ fn drops_what_no_link_has(rt: HostRuntime) -> Result<(), Memory> {
     let alloc = rt.alloc();
     let mut store = Store::new(alloc);
     let _one = store.intern(from_sets(alloc, &[1])?)?;
-    let none = store.intern(Chain::fixed(alloc, false)?)?;
-    assert_eq!(rt; none.copy()?.chain().sets(), [].as_slice());
+    let none = store.intern(Antichain::fixed(alloc, false)?)?;
+    assert_eq!(rt; none.copy()?.antichain().sets(), [].as_slice());
     let (next, moved) = Store::next_generation(alloc, &[none])?;
     assert_eq!(rt; next.links().len(), 1);
-    assert_eq!(rt; next.clauses(), 0);
+    assert_eq!(rt; next.set_count(), 0);
     assert_eq!(rt; moved.len(), 1);
-    assert_eq!(rt; moved[0].chain().sets(), [].as_slice());
+    assert_eq!(rt; moved[0].antichain().sets(), [].as_slice());
     Ok(())
 }
 
@@ -50,6 +58,6 @@ fn substitutes(rt: HostRuntime) -> Result<(), Memory> {
     let first = Link::new(alloc, from_sets(alloc, &[1])?)?;
     let second = Link::new(alloc, from_sets(alloc, &[1, 2])?)?;
     let replaced = store.substituted(&pair, &[first, second])?;
-    assert_eq!(rt; replaced.chain().sets(), [1].as_slice());
+    assert_eq!(rt; replaced.antichain().sets(), [1].as_slice());
     Ok(())
 }

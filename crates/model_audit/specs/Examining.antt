@@ -16,8 +16,7 @@ use Rattle.model_audit.specs.declared.examining.Finding.TheVariants.{
 }
 
 -- the first inclusion that the facts held don't satisfy, counted from 1, and the place of the first
--- fact of the list whose
--- right side is missing
+-- fact of the list whose right side is missing
 pub record IsBroken (inclusions : List Inclusion) (held facts : List Fact) (number place : ℕ) : Type
     0 where
   pub before : ℕ

@@ -15,11 +15,9 @@ use std::alloc::Global;
 use tcq_syntax::Query;
 
 /// The first fact of the snapshot that the model lacks, the first inclusion and fact whose right
-/// side is missing, the
-/// first clash that the model meets, or, where it is a finite model of the snapshot, for each query
-/// and leaf the rows of
-/// declared individuals with a match in it. Then the snapshot is consistent, and each certain
-/// answer is among the rows.
+/// side is missing, the first clash that the model meets, or, where it is a finite model of the
+/// snapshot, for each query and leaf the rows of declared individuals with a match in it. Then the
+/// snapshot is consistent, and each certain answer is among the rows.
 pub fn audit(
     alloc: Global,
     ontology: &Ontology,

@@ -78,8 +78,7 @@ fn found(index: &Index, ontology: &Ontology, snapshot: &[Fact], facts: &[Fact]) 
 }
 
 /// What a list of facts lacks of a finite model of the snapshot, and `Model` exactly where it is
-/// one, which shows that the
-/// snapshot is consistent.
+/// one, which shows that the snapshot is consistent.
 pub fn examine(
     alloc: Global,
     ontology: &Ontology,

@@ -6,8 +6,7 @@ ghost use Rattle.model_audit.specs.Laws.{
 };
 
 /// A finite list of facts over individuals is a finite model of a snapshot exactly where it is one
-/// of its models, the
-/// elements of which are the individuals.
+/// of its models, the elements of which are the individuals.
 pub fn finite_models_are_models()
     ensures { FiniteModelsAreModels }
 {}

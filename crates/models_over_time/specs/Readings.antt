@@ -135,8 +135,7 @@ pub record AreExact (inclusions : List Inclusion) (clashes : List Clash) (histor
       ↔ Holds inclusions history row f i
 
 -- the history has a snapshot, and these are the rows of individuals for which the root holds at the
--- last position in
--- each sequence of such models, in rising order. There are so many individuals
+-- last position in each sequence of such models, in rising order. There are so many individuals
 pub record AreCommonAnswers (inclusions : List Inclusion) (clashes : List Clash) (individuals : ℕ)
     (query : Tcq) (history : History) (rows : List (List IndId)) : Type 0 where
   pub has_snapshot : 0 < length history.snapshots

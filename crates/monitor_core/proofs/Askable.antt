@@ -1,5 +1,7 @@
 -- The leaves of a query can be rewritten, and its tuples are few.
-use Rattle.std.proofs.Common.{◌≡◌, ℕ, suc, ◌+◌, ◌*◌, ◌^◌, ◌<◌, ◌≤◌, List, [], ◌∷◌, ◌++◌, length, take, drop, get_or, refl, sym, ◌∙◌, ap, subst, arith, inl, inr, append_assoc, append-nil, drop-cons}
+use Rattle.std.proofs.Common.{◌≡◌, ℕ, suc, ◌+◌, ◌*◌, ◌^◌, ◌<◌, ◌≤◌, List, [], ◌∷◌, ◌++◌, length}
+use Rattle.std.proofs.Common.{take, drop, get_or, refl, sym, ◌∙◌, ap, subst, arith, inl, inr}
+use Rattle.std.proofs.Common.{append_assoc, append-nil, drop-cons}
 use Rattle.std.specs.Prelude.{Some, slice_get}
 use Rattle.std.specs.List.{All, AllPairs, Contains}
 use Rattle.std.proofs.lemmas.List.Elements.{All-nil, All-cons, All-contains}
@@ -16,7 +18,8 @@ use Rattle.dl_syntax.specs.declared.queries.Cq.{Cq}
 use Rattle.dl_syntax.specs.Declaring.{IsDeclaredAtom}
 use Rattle.dl_syntax.specs.Queries.{IsQuery, IsDeclaredQuery}
 use Rattle.dl_syntax.specs.Ontology.{Declared}
-use Rattle.dl_syntax.proofs.AllByCons.{AllPairs-tail, AllPairs-head, Contains-none, Contains-first, Contains-later, Contains-cons_cases}
+use Rattle.dl_syntax.proofs.AllByCons.{AllPairs-tail, AllPairs-head, Contains-none, Contains-first}
+use Rattle.dl_syntax.proofs.AllByCons.{Contains-later, Contains-cons_cases}
 use Rattle.std.proofs.lemmas.List.Elements.{All-weaker}
 use Rattle.tcq_syntax.specs.declared.nodes.Node.{Node}
 use Rattle.tcq_syntax.specs.declared.nodes.Node.TheVariants as node
@@ -33,18 +36,25 @@ abbrev Rises : Term → Term → Type 0
 Rises x y = (v w : ℕ) → x ≡ Var v → y ≡ Var w → v < w
 
 -- variables that rise from one number on and stay below another are few
-few_rising : (low high : ℕ) (xs : List Term) → AllPairs Rises xs → ((x : Term) → Contains xs x → (v : ℕ) × (x ≡ Var v) × (low ≤ v) × (v < high)) → low ≤ high → low + length xs ≤ high
+few_rising : (low high : ℕ) (xs : List Term) → AllPairs Rises xs
+    → ((x : Term) → Contains xs x → (v : ℕ) × (x ≡ Var v) × (low ≤ v) × (v < high)) → low ≤ high
+    → low + length xs ≤ high
 few_rising low high [] rising bounds le = omega arith
 few_rising low high (x ∷ xs) rising bounds le =
     let here : (v : ℕ) × (x ≡ Var v) × (low ≤ v) × (v < high) = bounds x (Contains-first x xs) in
-    let later : suc here.0 + length xs ≤ high = few_rising (suc here.0) high xs (AllPairs-tail Rises x xs rising) (λ y there.
-    let next : (w : ℕ) × (y ≡ Var w) × (low ≤ w) × (w < high) = bounds y (Contains-later x xs y there) in
-    (next.0, next.1, AllPairs-head Rises x xs y rising there here.0 next.0 here.1 next.1, next.3)) (here.3) in
+    let later : suc here.0 + length xs ≤ high =
+    few_rising (suc here.0) high xs (AllPairs-tail Rises x xs rising) (λ y there.
+    let next : (w : ℕ) × (y ≡ Var w) × (low ≤ w) × (w < high) =
+    bounds y (Contains-later x xs y there) in
+    (next.0, next.1, AllPairs-head Rises x xs y rising there here.0 next.0 here.1 next.1, next.3))
+    (here.3) in
     omega (arith, here.2)
 
 pub short_head : (vars : ℕ) (q : Cq) → IsAnswerHead vars q → length q.head ≤ vars
-short_head vars q is = let most : 0 + length q.head ≤ vars = few_rising 0 vars q.head is.rising (λ x there.
-    let variable : (v : ℕ) × (x ≡ Var v) = All-contains (λ (y : Term). (v : ℕ) × (y ≡ Var v)) q.head x is.variables there in
+short_head vars q is = let most : 0 + length q.head ≤ vars =
+    few_rising 0 vars q.head is.rising (λ x there.
+    let variable : (v : ℕ) × (x ≡ Var v) =
+    All-contains (λ (y : Term). (v : ℕ) × (y ≡ Var v)) q.head x is.variables there in
     let bound = (is.member variable.0).0 (subst (Contains q.head) variable.1 there) in
     (variable.0, variable.1, omega arith, bound.0)) (omega arith) in
     omega arith
@@ -54,23 +64,39 @@ plain_atom concepts roles (atom.Concept c x) declared = tt
 plain_atom concepts roles (atom.Role p x y) declared = declared
 
 pub plain_query : (concepts roles : ℕ) (q : Cq) → IsDeclaredQuery concepts roles q → IsPlain roles q
-plain_query concepts roles q declared = All-weaker (IsDeclaredAtom concepts roles) (IsPlainAtom roles) (plain_atom concepts roles) q.body declared
+plain_query concepts roles q declared =
+    All-weaker (IsDeclaredAtom concepts roles) (IsPlainAtom roles) (plain_atom concepts roles)
+    q.body declared
 
-pub plain_leaves : (o : Declared) (query : Tcq) → HasDeclaredLeaves o query → HasPlainLeaves (encoded o).roles query
-plain_leaves o query declared = λ place q there. plain_query (length o.concepts) (length o.roles) q (declared place q there).predicates
+pub plain_leaves : (o : Declared) (query : Tcq) → HasDeclaredLeaves o query
+    → HasPlainLeaves (encoded o).roles query
+plain_leaves o query declared = λ place q there.
+    plain_query (length o.concepts) (length o.roles) q (declared place q there).predicates
 
-pub askable : (e : Encoded) (query : Tcq) (place : ℕ) (q : Cq) → IsTcq query.vars query.nodes → HasPlainLeaves e.roles query → slice_get query.nodes place ≡ Some (node.Leaf q) → IsAskable e q
+pub askable : (e : Encoded) (query : Tcq) (place : ℕ) (q : Cq) → IsTcq query.vars query.nodes
+    → HasPlainLeaves e.roles query → slice_get query.nodes place ≡ Some (node.Leaf q)
+    → IsAskable e q
 askable e query place q table plain there =
     let leaf : IsLeaf query.vars q = table.leaves place q there in
     let short : length q.head ≤ query.vars = short_head query.vars q leaf.head in
-    record { query = leaf.query; plain = plain place q there; short = omega (arith, table.few_variables) }
+    record {
+      query = leaf.query;
+      plain = plain place q there;
+      short =
+          omega (arith, table.few_variables);
+    }
 
 -- what holds of each leaf of a table holds of all its leaves
-pub all_of_leaves : (P : Cq → Type 0) (nodes : List Node) → ((place : ℕ) (q : Cq) → slice_get nodes place ≡ Some (node.Leaf q) → P q) → All P (leaves_of nodes)
+pub all_of_leaves : (P : Cq → Type 0) (nodes : List Node)
+    → ((place : ℕ) (q : Cq) → slice_get nodes place ≡ Some (node.Leaf q) → P q)
+    → All P (leaves_of nodes)
 all_of_leaves P [] each = All-nil P
-all_of_leaves P (n ∷ nodes) each = by_kind n (all_of_leaves P nodes (λ place q there. each (suc place) q there)) (λ q same. each 0 q (ap Some same))
+all_of_leaves P (n ∷ nodes) each =
+    by_kind n (all_of_leaves P nodes (λ place q there. each (suc place) q there)) (λ q same.
+    each 0 q (ap Some same))
   where
-    by_kind : (n : Node) → All P (leaves_of nodes) → ((q : Cq) → n ≡ node.Leaf q → P q) → All P (leaves_of (n ∷ nodes))
+    by_kind : (n : Node) → All P (leaves_of nodes) → ((q : Cq) → n ≡ node.Leaf q → P q)
+        → All P (leaves_of (n ∷ nodes))
     by_kind (node.Leaf q) rest here = All-cons P q (leaves_of nodes) (here q refl) rest
     by_kind node.True rest here = rest
     by_kind node.False rest here = rest
@@ -87,14 +113,19 @@ all_of_leaves P (n ∷ nodes) each = by_kind n (all_of_leaves P nodes (λ place 
     by_kind (node.Once f) rest here = rest
     by_kind (node.Historically f) rest here = rest
 
-pub query_leaves : (query : Tcq) → IsTcq query.vars query.nodes → All IsQuery (leaves_of query.nodes)
-query_leaves query table = all_of_leaves IsQuery query.nodes (λ place q there. (table.leaves place q there).query)
+pub query_leaves : (query : Tcq) → IsTcq query.vars query.nodes
+    → All IsQuery (leaves_of query.nodes)
+query_leaves query table = all_of_leaves IsQuery query.nodes (λ place q there.
+    (table.leaves place q there).query)
 
-pub over_leaves : (o : Declared) (query : Tcq) → HasDeclaredLeaves o query → All (IsQueryOver o) (leaves_of query.nodes)
-over_leaves o query declared = all_of_leaves (IsQueryOver o) query.nodes (λ place q there. (declared place q there).predicates)
+pub over_leaves : (o : Declared) (query : Tcq) → HasDeclaredLeaves o query
+    → All (IsQueryOver o) (leaves_of query.nodes)
+over_leaves o query declared = all_of_leaves (IsQueryOver o) query.nodes (λ place q there.
+    (declared place q there).predicates)
 
 -- the leaf of one node, and then those of the rest
-leaves_of-cons : (n : Node) (nodes : List Node) → leaves_of (n ∷ nodes) ≡ leaves_of (n ∷ []) ++ leaves_of nodes
+leaves_of-cons : (n : Node) (nodes : List Node)
+    → leaves_of (n ∷ nodes) ≡ leaves_of (n ∷ []) ++ leaves_of nodes
 leaves_of-cons (node.Leaf q) nodes = refl
 leaves_of-cons node.True nodes = refl
 leaves_of-cons node.False nodes = refl
@@ -111,7 +142,8 @@ leaves_of-cons (node.Or f g) nodes = refl
 leaves_of-cons (node.Until f g) nodes = refl
 leaves_of-cons (node.Since f g) nodes = refl
 
-pub leaves_of-append : (front rest : List Node) → leaves_of (front ++ rest) ≡ leaves_of front ++ leaves_of rest
+pub leaves_of-append : (front rest : List Node)
+    → leaves_of (front ++ rest) ≡ leaves_of front ++ leaves_of rest
 leaves_of-append [] rest = refl
 leaves_of-append (m ∷ front) rest =
     leaves_of-cons m (front ++ rest)
@@ -120,38 +152,57 @@ leaves_of-append (m ∷ front) rest =
     ∙ ap (λ all. all ++ leaves_of rest) (sym (leaves_of-cons m front))))
 
 -- the list up to a place, the element there, and what comes after
-pub parted : {X : Type 0} (xs : List X) (k : ℕ) (x : X) → k < length xs → x ≡ get_or xs k x → xs ≡ take k xs ++ x ∷ drop (suc k) xs
-parted xs k x within is = sym (ap (λ ys. take k xs ++ ys) (ap (λ y. y ∷ drop (suc k) xs) is ∙ sym (drop-cons xs k x within)) ∙ take-append-drop k xs)
+pub parted : {X : Type 0} (xs : List X) (k : ℕ) (x : X) → k < length xs → x ≡ get_or xs k x
+    → xs ≡ take k xs ++ x ∷ drop (suc k) xs
+parted xs k x within is =
+    sym (ap (λ ys. take k xs ++ ys) (ap (λ y.
+    y ∷ drop (suc k) xs) is ∙ sym (drop-cons xs k x within)) ∙ take-append-drop k xs)
 
 -- the leaves up to a place, those of the node there, and those after it
-pub leaves_parted : (nodes : List Node) (k : ℕ) (n : Node) → k < length nodes → n ≡ get_or nodes k n → leaves_of nodes ≡ (leaves_of (take k nodes) ++ leaves_of (n ∷ [])) ++ leaves_of (drop (suc k) nodes)
+pub leaves_parted : (nodes : List Node) (k : ℕ) (n : Node) → k < length nodes → n ≡ get_or nodes k n
+    → leaves_of nodes ≡ (leaves_of (take k nodes) ++ leaves_of (n ∷ []))
+    ++ leaves_of (drop (suc k) nodes)
 leaves_parted nodes k n within is =
     ap leaves_of (parted nodes k n within is)
     ∙ (leaves_of-append (take k nodes) (n ∷ drop (suc k) nodes)
     ∙ (ap (λ rest. leaves_of (take k nodes) ++ rest) (leaves_of-cons n (drop (suc k) nodes))
-    ∙ sym (append_assoc (leaves_of (take k nodes)) (leaves_of (n ∷ [])) (leaves_of (drop (suc k) nodes)))))
+    ∙ sym (append_assoc (leaves_of (take k nodes)) (leaves_of (n ∷ []))
+    (leaves_of (drop (suc k) nodes)))))
 
-pub taken_more : {X : Type 0} (xs : List X) (k : ℕ) (x : X) → k < length xs → x ≡ get_or xs k x → take (k + 1) xs ≡ take k xs ++ x ∷ []
+pub taken_more : {X : Type 0} (xs : List X) (k : ℕ) (x : X) → k < length xs → x ≡ get_or xs k x
+    → take (k + 1) xs ≡ take k xs ++ x ∷ []
 taken_more xs k x within is =
     let next : k + 1 ≡ suc k = omega arith in
     ap (λ n. take n xs) next ∙ (take-suc xs k x within ∙ ap (λ y. take k xs ++ y ∷ []) (sym is))
 
-pub leaves_taken : (nodes : List Node) (k : ℕ) (n : Node) → k < length nodes → n ≡ get_or nodes k n → leaves_of (take (k + 1) nodes) ≡ leaves_of (take k nodes) ++ leaves_of (n ∷ [])
-leaves_taken nodes k n within is = ap leaves_of (taken_more nodes k n within is) ∙ leaves_of-append (take k nodes) (n ∷ [])
+pub leaves_taken : (nodes : List Node) (k : ℕ) (n : Node) → k < length nodes → n ≡ get_or nodes k n
+    → leaves_of (take (k + 1) nodes) ≡ leaves_of (take k nodes) ++ leaves_of (n ∷ [])
+leaves_taken nodes k n within is =
+    ap leaves_of (taken_more nodes k n within is) ∙ leaves_of-append (take k nodes) (n ∷ [])
 
-pub all_leaves-append : (front rest : List Tcq) → all_leaves (front ++ rest) ≡ all_leaves front ++ all_leaves rest
+pub all_leaves-append : (front rest : List Tcq)
+    → all_leaves (front ++ rest) ≡ all_leaves front ++ all_leaves rest
 all_leaves-append [] rest = refl
-all_leaves-append (q ∷ front) rest = ap (λ later. leaves_of q.nodes ++ later) (all_leaves-append front rest) ∙ sym (append_assoc (leaves_of q.nodes) (all_leaves front) (all_leaves rest))
+all_leaves-append (q ∷ front) rest =
+    ap (λ later. leaves_of q.nodes ++ later) (all_leaves-append front rest) ∙ sym
+    (append_assoc (leaves_of q.nodes) (all_leaves front) (all_leaves rest))
 
 one_query : (q : Tcq) → all_leaves (q ∷ []) ≡ leaves_of q.nodes
 one_query q = append-nil (leaves_of q.nodes)
 
-pub all_leaves_parted : (queries : List Tcq) (k : ℕ) (q : Tcq) → k < length queries → q ≡ get_or queries k q → all_leaves queries ≡ all_leaves (take k queries) ++ (leaves_of q.nodes ++ all_leaves (drop (suc k) queries))
-all_leaves_parted queries k q within is = ap all_leaves (parted queries k q within is) ∙ all_leaves-append (take k queries) (q ∷ drop (suc k) queries)
+pub all_leaves_parted : (queries : List Tcq) (k : ℕ) (q : Tcq) → k < length queries
+    → q ≡ get_or queries k q → all_leaves queries
+    ≡ all_leaves (take k queries) ++ (leaves_of q.nodes ++ all_leaves (drop (suc k) queries))
+all_leaves_parted queries k q within is =
+    ap all_leaves (parted queries k q within is) ∙ all_leaves-append (take k queries)
+    (q ∷ drop (suc k) queries)
 
-pub all_leaves_taken : (queries : List Tcq) (k : ℕ) (q : Tcq) → k < length queries → q ≡ get_or queries k q → all_leaves (take (k + 1) queries) ≡ all_leaves (take k queries) ++ leaves_of q.nodes
+pub all_leaves_taken : (queries : List Tcq) (k : ℕ) (q : Tcq) → k < length queries
+    → q ≡ get_or queries k q → all_leaves (take (k + 1) queries)
+    ≡ all_leaves (take k queries) ++ leaves_of q.nodes
 all_leaves_taken queries k q within is =
-    ap all_leaves (taken_more queries k q within is) ∙ (all_leaves-append (take k queries) (q ∷ []) ∙ ap (λ last. all_leaves (take k queries) ++ last) (one_query q))
+    ap all_leaves (taken_more queries k q within is) ∙ (all_leaves-append (take k queries)
+    (q ∷ []) ∙ ap (λ last. all_leaves (take k queries) ++ last) (one_query q))
 
 -- ---- few tuples
 
@@ -163,21 +214,31 @@ le_times a b c some more =
     omega arith
 
 module _ (individuals : ℕ) where
-  one_of_all : (queries : List Tcq) (query : Tcq) → Contains queries query → units_of individuals query ≤ units individuals queries
+  one_of_all : (queries : List Tcq) (query : Tcq) → Contains queries query
+      → units_of individuals query ≤ units individuals queries
   one_of_all [] query there = absurd (Contains-none query there)
   one_of_all (q ∷ queries) query there =
-      let whole : units individuals (q ∷ queries) ≡ units_of individuals q + units individuals queries = sum_by-cons (units_of individuals) q queries in
+      let whole : units individuals (q ∷ queries)
+      ≡ units_of individuals q + units individuals queries =
+      sum_by-cons (units_of individuals) q queries in
       elim (Contains-cons_cases q queries query there) [
-        | inl same ↦ (let here : units_of individuals q ≡ units_of individuals query = ap (units_of individuals) same in omega arith)
-        | inr later ↦ (let rest : units_of individuals query ≤ units individuals queries = one_of_all queries query later in omega arith)
+        | inl same ↦ (let here : units_of individuals q ≡ units_of individuals query =
+            ap (units_of individuals) same in omega arith)
+        | inr later ↦ (let rest : units_of individuals query ≤ units individuals queries =
+            one_of_all queries query later in omega arith)
       ]
 
   -- the tuples of a query are no more than its units
-  pub few_tuples : (queries : List Tcq) (query : Tcq) → Contains queries query → IsTcq query.vars query.nodes → units individuals queries ≤ most_units → individuals ^ query.vars ≤ 2 ^ 60
+  pub few_tuples : (queries : List Tcq) (query : Tcq) → Contains queries query
+      → IsTcq query.vars query.nodes → units individuals queries ≤ most_units
+      → individuals ^ query.vars ≤ 2 ^ 60
   few_tuples queries query there table small =
       let some : 0 < length query.nodes = (children_are_below query.vars query.nodes table).1 in
       let sets : 0 < 2 ^ futures query.nodes = one-le-pow (futures query.nodes) 2 (omega arith) in
-      let one : individuals ^ query.vars ≤ units_of individuals query = le_times (length query.nodes) (individuals ^ query.vars) (2 ^ futures query.nodes) some sets in
-      let all : units_of individuals query ≤ units individuals queries = one_of_all queries query there in
+      let one : individuals ^ query.vars ≤ units_of individuals query =
+      le_times (length query.nodes) (individuals ^ query.vars) (2 ^ futures query.nodes) some
+      sets in
+      let all : units_of individuals query ≤ units individuals queries =
+      one_of_all queries query there in
       let most : most_units ≤ 2 ^ 60 = omega arith in
       omega arith

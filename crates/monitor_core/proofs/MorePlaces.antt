@@ -10,8 +10,14 @@ use Rattle.monitor_core.specs.Planning.{IsAskedAt}
 use Rattle.monitor_core.specs.Opening.{KeepsLeaves, Gathers}
 use Rattle.monitor_core.proofs.Placing.{all_asked_kept}
 
-pub gathers_more : (e : Encoded) (front : List Cq) (leaves after : List Leaf) (places new : List ℕ) (reached count : ℕ) (q : Cq) (place : ℕ) → Gathers e front leaves places reached → KeepsLeaves leaves after → new ≡ places ++ place ∷ [] → IsAskedAt e after q place → HoldsOf (Reachable e q) count → Gathers e (front ++ q ∷ []) after new (reached + count)
-gathers_more e front leaves after places new reached count q place gathered kept new_is is holds = record {
-  each = subst (AllZip (IsAskedAt e after) (front ++ q ∷ [])) (sym new_is) (all_zipped_more (IsAskedAt e after) front places q place (all_asked_kept e leaves after kept front places gathered.each) is);
-  all = all_joined e front (q ∷ []) reached count gathered.all (all_one e q count holds);
-}
+pub gathers_more : (e : Encoded) (front : List Cq) (leaves after : List Leaf) (places new : List ℕ)
+    (reached count : ℕ) (q : Cq) (place : ℕ) → Gathers e front leaves places reached
+    → KeepsLeaves leaves after → new ≡ places ++ place ∷ [] → IsAskedAt e after q place
+    → HoldsOf (Reachable e q) count → Gathers e (front ++ q ∷ []) after new (reached + count)
+gathers_more e front leaves after places new reached count q place gathered kept new_is is holds =
+    record {
+      each = subst (AllZip (IsAskedAt e after) (front ++ q ∷ [])) (sym new_is)
+          (all_zipped_more (IsAskedAt e after) front places q place
+          (all_asked_kept e leaves after kept front places gathered.each) is);
+      all = all_joined e front (q ∷ []) reached count gathered.all (all_one e q count holds);
+    }

@@ -17,23 +17,32 @@ use Rattle.progression.specs.Kept.{Fits, StandsFor, AreRows, AreSlotAnswers}
 abbrev pub one_more : ℕ → ℕ
 one_more count = min (count + 1) (2 ^ 64 - 1)
 
--- exactly the facts over individuals that some run of the snapshot has and whose predicates are looked at
+-- exactly the facts over individuals that some run of the snapshot has and whose predicates are
+-- looked at
 abbrev pub AreSeen : Declared → Sight → List Fact → List Fact → Type 0
-AreSeen ontology sight snapshot facts = (whole : List Fact) × IsSaturated ontology snapshot whole × ((f : Fact) → Contains facts f ↔ Seen sight (Contains whole) f)
+AreSeen ontology sight snapshot facts = (whole : List Fact) × IsSaturated ontology snapshot whole
+    × ((f : Fact) → Contains facts f ↔ Seen sight (Contains whole) f)
 
--- what is kept of a query after one more snapshot, from which these facts follow as far as is looked, and the answers then
-pub record Advances (ontology : Declared) (sight : Sight) (query : Tcq) (facts : List Fact) (old new : Kept) (relation : Relation) : Type 0 where
+-- what is kept of a query after one more snapshot, from which these facts follow as far as is
+-- looked, and the answers then
+pub record Advances (ontology : Declared) (sight : Sight) (query : Tcq) (facts : List Fact)
+    (old new : Kept) (relation : Relation) : Type 0 where
   pub fits : Fits query (length ontology.individuals) new
   pub counted : new.count ≡ one_more old.count
   pub rows : AreRows query (length ontology.individuals) relation
-  pub stands : (history : History) (snapshot : List Fact) → IsOverOntology ontology snapshot → AreSeen ontology sight snapshot facts →
+  pub stands : (history : History) (snapshot : List Fact) → IsOverOntology ontology snapshot
+      → AreSeen ontology sight snapshot facts →
       StandsFor ontology.inclusions (length ontology.individuals) history query old →
-      StandsFor ontology.inclusions (length ontology.individuals) (with_snapshot snapshot history) query new
-      × AreSlotAnswers ontology.inclusions (length ontology.individuals) query (with_snapshot snapshot history) relation.rows
+      StandsFor ontology.inclusions (length ontology.individuals) (with_snapshot snapshot history)
+      query new
+      × AreSlotAnswers ontology.inclusions (length ontology.individuals) query
+      (with_snapshot snapshot history) relation.rows
 
 -- that of each query
-abbrev pub AllAdvance : Declared → Sight → List Tcq → List Fact → List Kept → List Kept → List Relation → Type 0
+abbrev pub AllAdvance : Declared → Sight → List Tcq → List Fact → List Kept → List Kept
+    → List Relation → Type 0
 AllAdvance ontology sight [] facts [] [] [] = Unit {0}
 AllAdvance ontology sight (query ∷ queries) facts (old ∷ olds) (new ∷ news) (relation ∷ relations) =
-    Advances ontology sight query facts old new relation × AllAdvance ontology sight queries facts olds news relations
+    Advances ontology sight query facts old new relation
+    × AllAdvance ontology sight queries facts olds news relations
 AllAdvance ontology sight _ facts _ _ _ = ⊥

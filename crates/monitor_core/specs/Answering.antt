@@ -19,7 +19,8 @@ IsOverElement ontology (Null n) = ⊥
 -- the fact's predicate and its elements are declared
 abbrev pub IsOver : Declared → Fact → Type 0
 IsOver ontology (fact.Concept c e) = (c.0 < length ontology.concepts) × IsOverElement ontology e
-IsOver ontology (fact.Role p e e') = (p.0 < length ontology.roles) × IsOverElement ontology e × IsOverElement ontology e'
+IsOver ontology (fact.Role p e e') = (p.0 < length ontology.roles) × IsOverElement ontology e
+    × IsOverElement ontology e'
 
 abbrev pub AreOver : Declared → List Fact → Type 0
 AreOver ontology facts = All (IsOver ontology) facts
@@ -30,7 +31,9 @@ AreRowsOf ontology [] [] = Unit {0}
 AreRowsOf ontology [] (relation ∷ relations) = ⊥
 AreRowsOf ontology (query ∷ queries) [] = ⊥
 AreRowsOf ontology (query ∷ queries) (relation ∷ relations) =
-    (relation.arity ≡ query.vars) × All (IsRow (length ontology.individuals) query.vars) relation.rows × AreRowsOf ontology queries relations
+    (relation.arity ≡ query.vars)
+    × All (IsRow (length ontology.individuals) query.vars) relation.rows
+    × AreRowsOf ontology queries relations
 
 -- for each query its answers after the history
 abbrev pub AreAllAnswers : Declared → List Tcq → History → List Relation → Type 0
@@ -38,4 +41,5 @@ AreAllAnswers ontology [] history [] = Unit {0}
 AreAllAnswers ontology [] history (relation ∷ relations) = ⊥
 AreAllAnswers ontology (query ∷ queries) history [] = ⊥
 AreAllAnswers ontology (query ∷ queries) history (relation ∷ relations) =
-    AreAnswers ontology.inclusions (length ontology.individuals) query history relation.rows × AreAllAnswers ontology queries history relations
+    AreAnswers ontology.inclusions (length ontology.individuals) query history relation.rows
+    × AreAllAnswers ontology queries history relations

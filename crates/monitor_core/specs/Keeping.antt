@@ -5,49 +5,53 @@ use Rattle.dl_syntax.specs.Ontology.{Declared}
 use Rattle.dl_syntax.specs.declared.ontology.Inclusion.{Inclusion}
 use Rattle.tcq_syntax.specs.Histories.{empty_history}
 use Rattle.tcq_syntax.specs.Tcq.{Tcq}
-use Rattle.antichains.specs.Chain.{IsChain}
+use Rattle.antichains.specs.Antichain.{IsAntichain}
 use Rattle.formula_store.specs.Interned.{AreDistinct}
-use Rattle.answer_tables.specs.Table.{Chains, HasChain}
+use Rattle.answer_tables.specs.Table.{Antichains, HasAntichain}
 use Rattle.progression.specs.Kept.{Fits, StandsFor}
 use Rattle.progression.specs.declared.kept.Kept.{Kept}
 use Rattle.monitor_core.specs.declared.plan.Plan.{Plan}
 use Rattle.monitor_core.specs.declared.state.State.{State}
 use Rattle.monitor_core.specs.Planning.{IsPlan}
 
--- some tuple of a table that is kept of a query has the chain
+-- some tuple of a table that is kept of a query has the antichain
 abbrev pub KeepsOf : Kept → List ℕ → Type 0
-KeepsOf kept chain = (place : ℕ) × (table : Chains) × Contains kept.tables.items (place, table) × HasChain table chain
+KeepsOf kept antichain = (place : ℕ) × (table : Antichains)
+    × Contains kept.tables.items (place, table) × HasAntichain table antichain
 
 -- some tuple of a kept table has it
-abbrev pub KeepsChain : List Kept → List ℕ → Type 0
-KeepsChain kept chain = (k : Kept) × Contains kept k × KeepsOf k chain
+abbrev pub KeepsAntichain : List Kept → List ℕ → Type 0
+KeepsAntichain kept antichain = (k : Kept) × Contains kept k × KeepsOf k antichain
 
 -- the new list has what the old one has, and exactly what the property holds of beside
-abbrev pub AddsChains : (List ℕ → Type 0) → List (List ℕ) → List (List ℕ) → Type 0
-AddsChains P old new = (chain : List ℕ) → Contains new chain ↔ (Contains old chain ⊎ P chain)
+abbrev pub AddsAntichains : (List ℕ → Type 0) → List (List ℕ) → List (List ℕ) → Type 0
+AddsAntichains P old new = (antichain : List ℕ)
+    → Contains new antichain ↔ (Contains old antichain ⊎ P antichain)
 
--- the list has exactly the chains of the kept tables, each once
+-- the list has exactly the antichains of the kept tables, each once
 pub record IsStoreOf (kept : List Kept) (store : List (List ℕ)) : Type 0 where
   pub distinct : AreDistinct store
-  pub exact : (chain : List ℕ) → Contains store chain ↔ KeepsChain kept chain
+  pub exact : (antichain : List ℕ) → Contains store antichain ↔ KeepsAntichain kept antichain
 
--- the total length of the distinct chains that are kept of one query
-abbrev pub IsClausesOf : Kept → ℕ → Type 0
-IsClausesOf k size =
-    (store : List (List ℕ)) × IsStoreOf (k ∷ []) store × All IsChain store × (size ≡ sum_by length store)
+-- the total length of the distinct antichains that are kept of one query
+abbrev pub IsSetCountOf : Kept → ℕ → Type 0
+IsSetCountOf k size =
+    (store : List (List ℕ)) × IsStoreOf (k ∷ []) store × All IsAntichain store
+    × (size ≡ sum_by length store)
 
 -- what is kept of each query counts the snapshots that the state counts
 abbrev pub AreCounted : State → Type 0
 AreCounted state = All (λ k. k.count ≡ state.count) state.kept.items
 
--- all count the same snapshots, and the chains are those of the kept tables
+-- all count the same snapshots, and the antichains are those of the kept tables
 pub record IsState (state : State) : Type 0 where
   pub counts : AreCounted state
   pub stored : IsStoreOf state.kept.items state.store
 
 -- what is kept of each query fits it
 abbrev pub AllFit : Declared → List Tcq → List Kept → Type 0
-AllFit ontology queries kept = AllZip (λ query k. Fits query (length ontology.individuals) k) queries kept
+AllFit ontology queries kept =
+    AllZip (λ query k. Fits query (length ontology.individuals) k) queries kept
 
 -- what a monitor watches and what it keeps
 pub record Monitored : Type 0 where
@@ -63,7 +67,8 @@ pub record IsMonitored (m : Monitored) : Type 0 where
 pub record IsFresh (query : Tcq) (kept : Kept) : Type 0 where
   pub counted : kept.count ≡ 0
   pub fits : (slots : ℕ) → Fits query slots kept
-  pub stands : (inclusions : List Inclusion) (slots : ℕ) → StandsFor inclusions slots (empty_history true) query kept
+  pub stands : (inclusions : List Inclusion) (slots : ℕ)
+      → StandsFor inclusions slots (empty_history true) query kept
 
 abbrev pub AllFresh : List Tcq → List Kept → Type 0
 AllFresh queries kept = AllZip IsFresh queries kept

@@ -17,7 +17,8 @@ pub record AsksWell (leaf : Leaf) : Type 0 where
 pub record AreUnionAnswers (facts : List Fact) (leaf : Leaf) (relation : Relation) : Type 0 where
   pub arity : relation.arity ≡ leaf.arity
   pub rising : IsRising relation.rows
-  pub rows : (row : List IndId) → Contains relation.rows row ↔ IsUnionAnswer facts leaf.core.items row
+  pub rows : (row : List IndId) → Contains relation.rows row
+      ↔ IsUnionAnswer facts leaf.core.items row
 
 -- the relation is the one at the place
 abbrev pub StandsAt : List Relation → ℕ → Relation → Type 0
@@ -25,4 +26,5 @@ StandsAt relations place relation = slice_get relations place ≡ Some relation
 
 -- the relations are the answers of the leaves in some facts
 abbrev pub AreLeafRelations : List Leaf → List Relation → Type 0
-AreLeafRelations leaves relations = (facts : List Fact) × AllZip (AreUnionAnswers facts) leaves relations
+AreLeafRelations leaves relations = (facts : List Fact)
+    × AllZip (AreUnionAnswers facts) leaves relations

@@ -26,13 +26,16 @@ AsksSame leaves q place = (leaf : Leaf) × (slice_get leaves place ≡ Some leaf
 
 -- each leaf keeps its place
 abbrev pub KeepsLeaves : List Leaf → List Leaf → Type 0
-KeepsLeaves old new = (place : ℕ) (leaf : Leaf) → slice_get old place ≡ Some leaf → slice_get new place ≡ Some leaf
+KeepsLeaves old new = (place : ℕ) (leaf : Leaf) → slice_get old place ≡ Some leaf
+    → slice_get new place ≡ Some leaf
 
 -- the leaves at these places ask the queries, which reach so many in all
-pub record Gathers (e : Encoded) (queries : List Cq) (leaves : List Leaf) (places : List ℕ) (reached : ℕ) : Type 0 where
+pub record Gathers (e : Encoded) (queries : List Cq) (leaves : List Leaf) (places : List ℕ)
+    (reached : ℕ) : Type 0 where
   pub each : AllZip (IsAskedAt e leaves) queries places
   pub all : ReachAll e queries reached
 
 -- there are more than so many rewritings of what is watched
 abbrev pub HasMoreRewritings : Declared → List Tcq → ℕ → Type 0
-HasMoreRewritings ontology queries room = ReachMore (encoded ontology) (starts ontology queries) room
+HasMoreRewritings ontology queries room =
+    ReachMore (encoded ontology) (starts ontology queries) room

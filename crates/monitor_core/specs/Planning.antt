@@ -24,9 +24,11 @@ pub record IsAskable (e : Encoded) (q : Cq) : Type 0 where
 
 -- the leaves name no hidden role
 abbrev pub HasPlainLeaves : ℕ → Tcq → Type 0
-HasPlainLeaves roles query = (place : ℕ) (q : Cq) → slice_get query.nodes place ≡ Some (node.Leaf q) → IsPlain roles q
+HasPlainLeaves roles query = (place : ℕ) (q : Cq) → slice_get query.nodes place ≡ Some (node.Leaf q)
+    → IsPlain roles q
 
--- the leaf asks the query: the length of its head, the core of its rewriting, and how many queries it reaches
+-- the leaf asks the query: the length of its head, the core of its rewriting, and how many queries
+-- it reaches
 pub record IsLeafOf (e : Encoded) (q : Cq) (leaf : Leaf) : Type 0 where
   pub asks : leaf.query ≡ q
   pub arity : leaf.arity ≡ length q.head
@@ -43,7 +45,8 @@ AreLeaves e leaves = All (IsLeaf e) leaves
 
 -- the leaf at the place asks the query
 abbrev pub IsAskedAt : Encoded → List Leaf → Cq → ℕ → Type 0
-IsAskedAt e leaves q place = (leaf : Leaf) × (slice_get leaves place ≡ Some leaf) × IsLeafOf e q leaf
+IsAskedAt e leaves q place = (leaf : Leaf) × (slice_get leaves place ≡ Some leaf)
+    × IsLeafOf e q leaf
 
 -- for each leaf of the query, in order, the place of one that asks the same
 abbrev pub ArePlacesOf : Encoded → List Leaf → Tcq → List ℕ → Type 0
@@ -51,7 +54,8 @@ ArePlacesOf e leaves query places = AllZip (IsAskedAt e leaves) (leaves_of query
 
 -- for each query the places of its leaves
 abbrev pub AreAllPlaces : Encoded → List Leaf → List Tcq → List (Vec ℕ Global) → Type 0
-AreAllPlaces e leaves queries all = AllZip (λ query (places : Vec ℕ Global). ArePlacesOf e leaves query places.items) queries all
+AreAllPlaces e leaves queries all =
+    AllZip (λ query (places : Vec ℕ Global). ArePlacesOf e leaves query places.items) queries all
 
 -- the predicates of the leaves' cores are looked at
 abbrev pub SeesLeaves : Sight → List Leaf → Type 0
@@ -71,7 +75,8 @@ pub record IsPlan (plan : Plan) : Type 0 where
   pub within : AreWithin plan.ontology plan.queries.items
   pub counted : plan.slots ≡ length plan.ontology.individuals
   pub leaves : AreLeaves (encoded plan.ontology) plan.leaves.items
-  pub places : AreAllPlaces (encoded plan.ontology) plan.leaves.items plan.queries.items plan.places.items
+  pub places : AreAllPlaces (encoded plan.ontology) plan.leaves.items plan.queries.items
+      plan.places.items
   pub clashes_for : IsPreparedFor plan.clashes plan.ontology
   pub saturates : plan.saturator ≡ plan.ontology.inclusions
   pub sees_leaves : SeesLeaves plan.sight plan.leaves.items

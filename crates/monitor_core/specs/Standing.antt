@@ -1,5 +1,6 @@
 -- The history that a monitor stands for.
-use Rattle.std.specs.Prelude.{◌≡◌, ℕ, ◌-◌, ◌^◌, ◌≤◌, min, true, Some, List, [], ◌∷◌, length, slice_get}
+use Rattle.std.specs.Prelude.{◌≡◌, ℕ, ◌-◌, ◌^◌, ◌≤◌, min, true, Some, List, [], ◌∷◌, length}
+use Rattle.std.specs.Prelude.{slice_get}
 use Rattle.std.specs.List.{AllZip}
 use Rattle.dl_syntax.specs.Ontology.{Declared}
 use Rattle.dl_syntax.specs.declared.facts.Fact.{Fact}
@@ -31,25 +32,36 @@ IsClosed history = (history.names ≡ []) × (history.is_closed ≡ true)
 
 -- what is kept of each query stands for the history
 abbrev pub AllStand : Declared → History → List Tcq → List Kept → Type 0
-AllStand ontology history queries kept = AllZip (StandsFor ontology.inclusions (length ontology.individuals) history) queries kept
+AllStand ontology history queries kept =
+    AllZip (StandsFor ontology.inclusions (length ontology.individuals) history) queries kept
 
 unfoldable pub setting_of : Monitored → Setting
-setting_of monitor = record { ontology = monitor.plan.ontology; queries = monitor.plan.queries.items }
+setting_of monitor = record {
+  ontology = monitor.plan.ontology;
+  queries =
+      monitor.plan.queries.items;
+}
 
 -- the monitor stands for the history
 unfoldable pub Stands : Monitored → History → Type 0
-Stands monitor history = (monitor.state.count ≡ count_of history) × IsClosed history × AllStand monitor.plan.ontology history monitor.plan.queries.items monitor.state.kept.items
+Stands monitor history = (monitor.state.count ≡ count_of history) × IsClosed history
+    × AllStand monitor.plan.ontology history monitor.plan.queries.items monitor.state.kept.items
 
--- the state that follows when these facts follow from a snapshot as far as is looked, and the answers then
-pub record IsNext (old : Monitored) (facts : List Fact) (state : State) (relations : List Relation) : Type 0 where
+-- the state that follows when these facts follow from a snapshot as far as is looked, and the
+-- answers then
+pub record IsNext (old : Monitored) (facts : List Fact) (state : State)
+    (relations : List Relation) : Type 0 where
   pub sound : IsState state
   pub counted : state.count ≡ one_more old.state.count
-  pub advance : AllAdvance old.plan.ontology old.plan.sight old.plan.queries.items facts old.state.kept.items state.kept.items relations
+  pub advance : AllAdvance old.plan.ontology old.plan.sight old.plan.queries.items facts
+      old.state.kept.items state.kept.items relations
 
 -- a monitor that stood for the history took the snapshot, and answered by these relations
-pub record Accepts (old new : Monitored) (snapshot : List Fact) (relations : List Relation) (history : History) : Type 0 where
+pub record Accepts (old new : Monitored) (snapshot : List Fact) (relations : List Relation)
+    (history : History) : Type 0 where
   pub stands : Stands new (with_snapshot snapshot history)
-  pub answers : AreAllAnswers (setting_of old).ontology (setting_of old).queries (with_snapshot snapshot history) relations
+  pub answers : AreAllAnswers (setting_of old).ontology (setting_of old).queries
+      (with_snapshot snapshot history) relations
 
 -- whatever history the monitor stood for, it took the snapshot, and answered by these relations
 abbrev pub Takes : Monitored → Monitored → List Fact → List Relation → Type 0
@@ -84,7 +96,11 @@ abbrev pub KeepsSize : Monitored → ℕ → ℕ → Type 0
 KeepsSize monitor place size =
     (history : History) (query : Tcq) → Stands monitor history →
     slice_get (setting_of monitor).queries place ≡ Some query →
-    IsHeldSize (record { ontology = (setting_of monitor).ontology; queries = query ∷ [] }) history size
+    IsHeldSize (record {
+      ontology = (setting_of monitor).ontology;
+      queries =
+          query ∷ [];
+    }) history size
 
 -- the units of the queries over the declared individuals
 abbrev pub units_in : Setting → ℕ

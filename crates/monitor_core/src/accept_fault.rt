@@ -1,3 +1,5 @@
+//! Why a snapshot is not accepted.
+
 ghost use Rattle.std.specs.Prelude.{◌≡◌};
 
 use dl_syntax::Memory;

@@ -1,5 +1,6 @@
-// The rewritings of what is watched: of the leaves, where those that ask the same are kept once,
-// and of the clashes.
+//! The rewritings of what is watched: of the leaves, where those that ask the same are kept once,
+//! and of the clashes.
+
 ghost use Rattle.std.specs.Prelude.{◌≡◌, ◌≤◌, ◌↔◌, ◌++◌, [], ◌∷◌, List};
 ghost use Rattle.std.specs.Prelude.{IsTrue, IfOk, OnOk, MatchOption, Err};
 ghost use Rattle.dl_syntax.specs.declared.queries.Cq.{Cq};

@@ -1,4 +1,5 @@
-// The answers of leaves at one snapshot.
+//! The answers of leaves at one snapshot.
+
 ghost use Rattle.std.specs.Prelude.{◌<◌, IfOk, length};
 ghost use Rattle.std.specs.List.{All, AllZip};
 ghost use Rattle.monitor_core.specs.Leaves.{AsksWell, AreUnionAnswers, StandsAt};

@@ -1,10 +1,12 @@
+//! The monitor.
+
 ghost use Rattle.std.specs.Prelude.{◌≡◌, ◌<◌, ◌≤◌, length, IfOk};
 ghost use Rattle.tcq_syntax.specs.Histories.{History};
 ghost use Rattle.monitor_core.specs.Standing.{Stands, HoldsSize, KeepsSize, IsFewAt};
 ghost use Rattle.monitor_core.specs.Standing.{setting_of, count_of, units_in};
 
 use crate::plan::Plan;
-use crate::state::{State, clauses_of};
+use crate::state::{State, set_count_of};
 use answer_tables::Made;
 use dl_syntax::{Memory, Ontology};
 use std::alloc::Global;
@@ -54,23 +56,23 @@ impl Monitor {
         self.state.count
     }
 
-    /// How many sets are held: the total length of the distinct chains that are kept. They are no
-    /// more than the units of the queries, after any snapshots.
+    /// How many sets are held: the total length of the distinct antichains that are kept. They are
+    /// no more than the units of the queries, after any snapshots.
     pub fn held(&self) -> u64
         ensures kept { HoldsSize self.now result }
         ensures few { result ≤ units_in (setting_of self.now) }
     {
-        self.state.store.clauses()
+        self.state.store.set_count()
     }
 
-    /// How many sets are kept of the query at the place: the total length of the distinct chains of
-    /// its kept tables. They are no more than the query's units.
+    /// How many sets are kept of the query at the place: the total length of the distinct
+    /// antichains of its kept tables. They are no more than the query's units.
     pub fn kept_size(&self, alloc: Global, place: usize) -> Result<u64, Memory>
         requires { place < length (setting_of self.now).queries }
         ensures kept { IfOk result (KeepsSize self.now place) }
         ensures few { IfOk result (IsFewAt (setting_of self.now) place) }
     {
         let kept = self.state.kept.as_slice();
-        clauses_of(alloc, &kept[place])
+        set_count_of(alloc, &kept[place])
     }
 }

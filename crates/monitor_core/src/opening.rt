@@ -1,4 +1,5 @@
-// A monitor before any snapshot.
+//! A monitor before any snapshot.
+
 ghost use Rattle.std.specs.Prelude.{◌≡◌, Err, IfOk, OnOk};
 ghost use Rattle.tcq_syntax.specs.Within.{AreWithin};
 ghost use Rattle.monitor_core.specs.Planning.{SeesLeaves, SeesClashes, IsPlan};

@@ -1,3 +1,5 @@
+//! What is computed once of an ontology and queries.
+
 use consistency::Clashes;
 use dl_syntax::{Cq, Ontology};
 use saturate::{Saturator, Sight};

@@ -1,8 +1,10 @@
-// What a monitor keeps.
+//! What a monitor keeps.
+
 ghost use Rattle.std.specs.Prelude.{◌≡◌, [], IfOk, OnOk};
 ghost use Rattle.std.specs.List.{All};
-ghost use Rattle.answer_tables.specs.Table.{HasChain};
-ghost use Rattle.monitor_core.specs.Keeping.{KeepsOf, KeepsChain, IsState, AddsChains, IsClausesOf};
+ghost use Rattle.answer_tables.specs.Table.{HasAntichain};
+ghost use Rattle.monitor_core.specs.Keeping.{KeepsOf, KeepsAntichain, IsState, AddsAntichains};
+ghost use Rattle.monitor_core.specs.Keeping.{IsSetCountOf};
 
 use answer_tables::Table;
 use dl_syntax::Memory;
@@ -17,13 +19,14 @@ pub struct State {
     pub count: u64,
     /// For each query, what is kept of it.
     pub kept: Vec<Kept>,
-    /// The chains of all kept tables, each once.
+    /// The antichains of all kept tables, each once.
     pub store: Store,
 }
 
-/// Adds the links of a table's distinct chains.
+/// Adds the links of a table's distinct antichains.
 fn add_links(table: &Table, links: &mut Vec<Link>) -> Result<(), Memory>
-    ensures { OnOk result (AddsChains (HasChain table.now) links.old.items links.new.items) }
+    ensures { OnOk result (AddsAntichains (HasAntichain table.now) links.old.items
+        links.new.items) }
 {
     let distinct = table.distinct_links();
     for link in distinct {
@@ -32,9 +35,9 @@ fn add_links(table: &Table, links: &mut Vec<Link>) -> Result<(), Memory>
     Ok(())
 }
 
-/// Adds the links of the chains that are kept of a query.
+/// Adds the links of the antichains that are kept of a query.
 fn add_kept(kept: &Kept, links: &mut Vec<Link>) -> Result<(), Memory>
-    ensures { OnOk result (AddsChains (KeepsOf kept.now) links.old.items links.new.items) }
+    ensures { OnOk result (AddsAntichains (KeepsOf kept.now) links.old.items links.new.items) }
 {
     let entries = kept.tables.as_slice();
     for entry in entries {
@@ -43,9 +46,9 @@ fn add_kept(kept: &Kept, links: &mut Vec<Link>) -> Result<(), Memory>
     Ok(())
 }
 
-/// The links of all chains that are kept.
+/// The links of all antichains that are kept.
 fn links_of(alloc: Global, kept: &[Kept]) -> Result<Vec<Link>, Memory>
-    ensures { IfOk result (λ links. AddsChains (KeepsChain kept.now) [] links.items) }
+    ensures { IfOk result (λ links. AddsAntichains (KeepsAntichain kept.now) [] links.items) }
 {
     let mut links = Vec::new(alloc);
     for k in kept {
@@ -66,12 +69,12 @@ pub(crate) fn state_of(alloc: Global, count: u64, kept: Vec<Kept>) -> Result<Sta
     Ok(State { count, kept, store })
 }
 
-/// The total length of the distinct chains that are kept of a query.
-pub(crate) fn clauses_of(alloc: Global, kept: &Kept) -> Result<u64, Memory>
-    ensures { IfOk result (IsClausesOf kept.now) }
+/// The total length of the distinct antichains that are kept of a query.
+pub(crate) fn set_count_of(alloc: Global, kept: &Kept) -> Result<u64, Memory>
+    ensures { IfOk result (IsSetCountOf kept.now) }
 {
     let mut links = Vec::new(alloc);
     add_kept(kept, &mut links)?;
     let (store, _) = Store::next_generation(alloc, links.as_slice())?;
-    Ok(store.clauses())
+    Ok(store.set_count())
 }

@@ -1,10 +1,12 @@
 -- Where nothing fails a run is done, but for want of memory.
-use Rattle.std.proofs.Common.{◌≡◌, ℕ, ◌≤◌, ◌^◌, inl, inr, Option, None, Some, List, ◌++◌, length, refl, sym, ◌∙◌, ap, subst, arith, length-append}
+use Rattle.std.proofs.Common.{◌≡◌, ℕ, ◌≤◌, ◌^◌, inl, inr, Option, None, Some, List, ◌++◌, length}
+use Rattle.std.proofs.Common.{refl, sym, ◌∙◌, ap, subst, arith, length-append}
 use Rattle.edge_io.specs.Causes.{Rose}
 use Rattle.edge_io.specs.Known.{Takes}
 use Rattle.command_words.specs.Meanings.{Meaning, watch, rewrite, contain, drill, meaning_of_words}
 use Rattle.stream_report.specs.declared.ending.Ending.{Ending}
-use Rattle.stream_report.specs.declared.ending.Ending.TheVariants.{Done, Usage, Refused, ReadFault, WriteFault, Memory, StreamLimit}
+use Rattle.stream_report.specs.declared.ending.Ending.TheVariants.{Done, Usage, Refused, ReadFault}
+use Rattle.stream_report.specs.declared.ending.Ending.TheVariants.{WriteFault, Memory, StreamLimit}
 use Rattle.stream_report.specs.Ends.{StreamEnds, TextEnds}
 use Rattle.stream_report.specs.Outside.{Ports, Outside}
 use Rattle.stream_report.specs.Told.{Manner}
@@ -13,23 +15,32 @@ use Rattle.monitor_run.specs.Ends.{status_of}
 use Rattle.monitor_run.specs.Containments.{refuses_no_leaf}
 use Rattle.monitor_run.specs.Sources.{nothing_more}
 use Rattle.monitor_run.specs.Jobs.{asked_by}
-use Rattle.monitor_run.specs.Laws.{IsDone, IsGood, IsGoodRewriting, IsGoodContainment, IsGoodDrill, Completeness, RewritingCompleteness, ContainmentCompleteness, DrillCompleteness}
+use Rattle.monitor_run.specs.Laws.{IsDone, IsGood, IsGoodRewriting, IsGoodContainment, IsGoodDrill}
+use Rattle.monitor_run.specs.Laws.{Completeness, RewritingCompleteness, ContainmentCompleteness}
+use Rattle.monitor_run.specs.Laws.{DrillCompleteness}
 use Rattle.monitor_run.specs.Running.{AskedEnds, Performed, RunEnds}
 use Rattle.monitor_run.proofs.GoodSources.{files_memory, made_memory}
 
 -- words have one meaning
-one_meaning : (words : List (List ℕ)) (one other : Meaning) → meaning_of_words words ≡ Some one → meaning_of_words words ≡ Some other → other ≡ one
+one_meaning : (words : List (List ℕ)) (one other : Meaning) → meaning_of_words words ≡ Some one
+    → meaning_of_words words ≡ Some other → other ≡ one
 one_meaning words one other is same = let both : Some other ≡ Some one = sym same ∙ is in cc
 
-some_meaning : (words : List (List ℕ)) (means : Meaning) → meaning_of_words words ≡ Some means → meaning_of_words words ≡ None → ⊥
+some_meaning : (words : List (List ℕ)) (means : Meaning) → meaning_of_words words ≡ Some means
+    → meaning_of_words words ≡ None → ⊥
 some_meaning words means is none = let both : Some means ≡ None = sym is ∙ none in cc
 
-module _ (P : Type 0) (words : List (List ℕ)) (means : Meaning) (before now : Outside) (is : meaning_of_words words ≡ Some means) where
-  as_meant : (ending : Ending Refusal) → (AskedEnds (asked_by means) ending before now → P) → Performed ending words before now → P
-  as_meant ending then p = then (subst (λ (m : Meaning). AskedEnds (asked_by m) ending before now) (one_meaning words means p.means is p.words_mean) p.ends)
+module _ (P : Type 0) (words : List (List ℕ)) (means : Meaning) (before now : Outside)
+    (is : meaning_of_words words ≡ Some means) where
+  as_meant : (ending : Ending Refusal) → (AskedEnds (asked_by means) ending before now → P)
+      → Performed ending words before now → P
+  as_meant ending then p =
+      then (subst (λ (m : Meaning). AskedEnds (asked_by m) ending before now)
+      (one_meaning words means p.means is p.words_mean) p.ends)
 
   -- a run of words that mean this found no memory before all else, or did it
-  pub by_meaning : (ending : Ending Refusal) → (ending ≡ Memory → now ≡ before → P) → (AskedEnds (asked_by means) ending before now → P) → RunEnds ending words before now → P
+  pub by_meaning : (ending : Ending Refusal) → (ending ≡ Memory → now ≡ before → P)
+      → (AskedEnds (asked_by means) ending before now → P) → RunEnds ending words before now → P
   by_meaning Usage early then ends = absurd (some_meaning words means is ends.0)
   by_meaning Memory early then (inl same) = early refl same
   by_meaning Memory early then (inr p) = as_meant Memory then p
@@ -42,69 +53,119 @@ module _ (P : Type 0) (words : List (List ℕ)) (means : Meaning) (before now : 
 for_memory : (ending : Ending Refusal) → ending ≡ Memory → IsDone (status_of ending)
 for_memory ending is = inr (ap status_of is)
 
-taken_within : (before now : Option (List ℕ)) (stream taken : List ℕ) → before ≡ Some stream → Takes before now taken → length taken ≤ length stream
-taken_within before None stream taken told takes = let none : Some stream ≡ None = sym told ∙ takes in cc
+taken_within : (before now : Option (List ℕ)) (stream taken : List ℕ) → before ≡ Some stream
+    → Takes before now taken → length taken ≤ length stream
+taken_within before None stream taken told takes = let none : Some stream ≡ None =
+    sym told ∙ takes in cc
 taken_within before (Some left) stream taken told takes =
     let same : Some stream ≡ Some (taken ++ left) = sym told ∙ takes in
     let is : stream ≡ taken ++ left = cc in
     omega (arith, ap length is, length-append taken left)
 
-stream_done : {State : Type 0} (manner : Manner State) (first : State) (before now : Ports) (stream : List ℕ) → before.input.left ≡ Some stream → length stream ≤ 2 ^ 40 → ¬ Rose before.input.faults now.input.faults → ¬ Rose before.out.faults now.out.faults → (ending : Ending Refusal) → StreamEnds manner first ending before now → IsDone (status_of ending)
+stream_done : {State : Type 0} (manner : Manner State) (first : State) (before now : Ports)
+    (stream : List ℕ) → before.input.left ≡ Some stream → length stream ≤ 2 ^ 40
+    → ¬ Rose before.input.faults now.input.faults → ¬ Rose before.out.faults now.out.faults
+    → (ending : Ending Refusal) → StreamEnds manner first ending before now
+    → IsDone (status_of ending)
 stream_done manner first before now stream told short no_read no_write Done (run, fault) = inl refl
-stream_done manner first before now stream told short no_read no_write Memory (run, fault) = inr refl
-stream_done manner first before now stream told short no_read no_write Usage (run, fault) = absurd run.writes
-stream_done manner first before now stream told short no_read no_write (Refused refusal) (run, fault) = absurd run.writes
-stream_done manner first before now stream told short no_read no_write ReadFault (run, fault) = absurd (no_read fault)
-stream_done manner first before now stream told short no_read no_write WriteFault (run, fault) = absurd (no_write fault)
+stream_done manner first before now stream told short no_read no_write Memory (run, fault) =
+    inr refl
+stream_done manner first before now stream told short no_read no_write Usage (run, fault) =
+    absurd run.writes
+stream_done manner first before now stream told short no_read no_write (Refused refusal)
+    (run, fault) = absurd run.writes
+stream_done manner first before now stream told short no_read no_write ReadFault (run, fault) =
+    absurd (no_read fault)
+stream_done manner first before now stream told short no_read no_write WriteFault (run, fault) =
+    absurd (no_write fault)
 stream_done manner first before now stream told short no_read no_write StreamLimit (run, fault) =
-    absurd (omega (arith, taken_within before.input.left now.input.left stream run.taken told run.takes, short, run.writes.0))
+    absurd (omega (
+      arith,
+      taken_within before.input.left now.input.left stream run.taken told
+          run.takes,
+      short,
+      run.writes.0,
+    ))
 
-text_done : (is_text : List ℕ → Type 0) (before now : Ports) → ¬ Rose before.out.faults now.out.faults → (ending : Ending Refusal) → TextEnds is_text ending before now → IsDone (status_of ending)
+text_done : (is_text : List ℕ → Type 0) (before now : Ports)
+    → ¬ Rose before.out.faults now.out.faults → (ending : Ending Refusal)
+    → TextEnds is_text ending before now → IsDone (status_of ending)
 text_done is_text before now no_write Done ends = inl refl
 text_done is_text before now no_write Memory ends = inr refl
 text_done is_text before now no_write WriteFault ends = absurd (no_write ends.2)
 text_done is_text before now no_write Usage (input, (text, is, written), fault) = absurd written.is
-text_done is_text before now no_write (Refused refusal) (input, (text, is, written), fault) = absurd written.is
-text_done is_text before now no_write ReadFault (input, (text, is, written), fault) = absurd written.is
-text_done is_text before now no_write StreamLimit (input, (text, is, written), fault) = absurd written.is
+text_done is_text before now no_write (Refused refusal) (input, (text, is, written), fault) =
+    absurd written.is
+text_done is_text before now no_write ReadFault (input, (text, is, written), fault) =
+    absurd written.is
+text_done is_text before now no_write StreamLimit (input, (text, is, written), fault) =
+    absurd written.is
 
-watch_done : (words : List (List ℕ)) (before now : Outside) (good : IsGood words before now) (ending : Ending Refusal) → AskedEnds (asked_by (watch good.asked)) ending before now → IsDone (status_of ending)
-watch_done words before now good ending (stay, inl (fails, untouched)) = for_memory ending (files_memory nothing_more (record { ontology = good.asked.ontology; queries = good.asked.queries }) before now good.files ending fails)
+watch_done : (words : List (List ℕ)) (before now : Outside) (good : IsGood words before now)
+    (ending : Ending Refusal) → AskedEnds (asked_by (watch good.asked)) ending before now
+    → IsDone (status_of ending)
+watch_done words before now good ending (stay, inl (fails, untouched)) =
+    for_memory ending (files_memory nothing_more (record {
+      ontology = good.asked.ontology;
+      queries =
+          good.asked.queries;
+    }) before now good.files ending fails)
 watch_done words before now good ending (stay, inr (setting, opens, ends)) =
-    stream_done _ _ before.ports now.ports good.stream good.left good.short good.no_read_fault good.files.no_write_fault ending ends
+    stream_done _ _ before.ports now.ports good.stream good.left good.short good.no_read_fault
+    good.files.no_write_fault ending ends
 
 pub completeness : Completeness
 completeness status words before now eb en ran good =
     subst IsDone (sym ran.status_is)
-    (by_meaning (IsDone (status_of ran.ending)) words (watch good.asked) before now good.words_mean ran.ending
+    (by_meaning (IsDone (status_of ran.ending)) words (watch good.asked) before now good.words_mean
+    ran.ending
     (λ is same. for_memory ran.ending is) (watch_done words before now good ran.ending) ran.ends)
 
-rewriting_done : (words : List (List ℕ)) (before now : Outside) (good : IsGoodRewriting words before now) (ending : Ending Refusal) → AskedEnds (asked_by (rewrite good.names.ontology good.names.queries)) ending before now → IsDone (status_of ending)
-rewriting_done words before now good ending (stay, inl (fails, untouched)) = for_memory ending (files_memory nothing_more good.names before now good.files ending fails)
-rewriting_done words before now good ending (stay, inr (setting, opens, ends)) = text_done _ before.ports now.ports good.files.no_write_fault ending ends
+rewriting_done : (words : List (List ℕ)) (before now : Outside)
+    (good : IsGoodRewriting words before now) (ending : Ending Refusal)
+    → AskedEnds (asked_by (rewrite good.names.ontology good.names.queries)) ending before now
+    → IsDone (status_of ending)
+rewriting_done words before now good ending (stay, inl (fails, untouched)) =
+    for_memory ending (files_memory nothing_more good.names before now good.files ending fails)
+rewriting_done words before now good ending (stay, inr (setting, opens, ends)) =
+    text_done _ before.ports now.ports good.files.no_write_fault ending ends
 
 pub rewriting_completeness : RewritingCompleteness
 rewriting_completeness status words before now eb en ran good =
     subst IsDone (sym ran.status_is)
-    (by_meaning (IsDone (status_of ran.ending)) words (rewrite good.names.ontology good.names.queries) before now good.words_mean ran.ending
-    (λ is same. for_memory ran.ending is) (rewriting_done words before now good ran.ending) ran.ends)
+    (by_meaning (IsDone (status_of ran.ending)) words
+    (rewrite good.names.ontology good.names.queries) before now good.words_mean ran.ending
+    (λ is same. for_memory ran.ending is) (rewriting_done words before now good ran.ending)
+    ran.ends)
 
-containment_done : (words : List (List ℕ)) (before now : Outside) (good : IsGoodContainment words before now) (ending : Ending Refusal) → AskedEnds (asked_by (contain good.names.ontology good.names.queries)) ending before now → IsDone (status_of ending)
-containment_done words before now good ending (stay, inl (fails, untouched)) = for_memory ending (files_memory refuses_no_leaf good.names before now good.files ending fails)
-containment_done words before now good ending (stay, inr (setting, opens, ends)) = text_done _ before.ports now.ports good.files.no_write_fault ending ends
+containment_done : (words : List (List ℕ)) (before now : Outside)
+    (good : IsGoodContainment words before now) (ending : Ending Refusal)
+    → AskedEnds (asked_by (contain good.names.ontology good.names.queries)) ending before now
+    → IsDone (status_of ending)
+containment_done words before now good ending (stay, inl (fails, untouched)) =
+    for_memory ending (files_memory refuses_no_leaf good.names before now good.files ending fails)
+containment_done words before now good ending (stay, inr (setting, opens, ends)) =
+    text_done _ before.ports now.ports good.files.no_write_fault ending ends
 
 pub containment_completeness : ContainmentCompleteness
 containment_completeness status words before now eb en ran good =
     subst IsDone (sym ran.status_is)
-    (by_meaning (IsDone (status_of ran.ending)) words (contain good.names.ontology good.names.queries) before now good.words_mean ran.ending
-    (λ is same. for_memory ran.ending is) (containment_done words before now good ran.ending) ran.ends)
+    (by_meaning (IsDone (status_of ran.ending)) words
+    (contain good.names.ontology good.names.queries) before now good.words_mean ran.ending
+    (λ is same. for_memory ran.ending is) (containment_done words before now good ran.ending)
+    ran.ends)
 
-drill_done : (words : List (List ℕ)) (before now : Outside) (good : IsGoodDrill words before now) (ending : Ending Refusal) → AskedEnds (asked_by (drill good.seed good.count)) ending before now → IsDone (status_of ending)
-drill_done words before now good ending (stay, inl (fails, untouched)) = for_memory ending (made_memory good.setting good.opens ending fails)
-drill_done words before now good ending (stay, inr (setting, opens, ends)) = text_done _ before.ports now.ports good.no_write_fault ending ends
+drill_done : (words : List (List ℕ)) (before now : Outside) (good : IsGoodDrill words before now)
+    (ending : Ending Refusal) → AskedEnds (asked_by (drill good.seed good.count)) ending before now
+    → IsDone (status_of ending)
+drill_done words before now good ending (stay, inl (fails, untouched)) =
+    for_memory ending (made_memory good.setting good.opens ending fails)
+drill_done words before now good ending (stay, inr (setting, opens, ends)) =
+    text_done _ before.ports now.ports good.no_write_fault ending ends
 
 pub drill_completeness : DrillCompleteness
 drill_completeness status words before now eb en ran good =
     subst IsDone (sym ran.status_is)
-    (by_meaning (IsDone (status_of ran.ending)) words (drill good.seed good.count) before now good.words_mean ran.ending
+    (by_meaning (IsDone (status_of ran.ending)) words (drill good.seed good.count) before now
+    good.words_mean ran.ending
     (λ is same. for_memory ran.ending is) (drill_done words before now good ran.ending) ran.ends)

@@ -1,5 +1,6 @@
 -- Queries that are leaves.
-use Rattle.std.proofs.Common.{◌≡◌, ℕ, Bool, true, false, Some, None, List, [], ◌∷◌, length, refl, sym, ◌∙◌, ap, subst}
+use Rattle.std.proofs.Common.{◌≡◌, ℕ, Bool, true, false, Some, None, List, [], ◌∷◌, length, refl}
+use Rattle.std.proofs.Common.{sym, ◌∙◌, ap, subst}
 use Rattle.std.specs.Prelude.{◌≢◌, ◌==◌, Option, if◌then◌else◌, slice_get}
 use Rattle.std.specs.List.{All, Contains}
 use Rattle.std.proofs.lemmas.List.Elements.{All-nil, All-cons, All-weaker}
@@ -17,8 +18,11 @@ use Rattle.models.specs.Containment.{IsTermBelow, IsAtomBelow}
 use Rattle.contain_test.specs.Contained.{IsQueryOf}
 use Rattle.monitor_core.specs.Setting.{Setting}
 use Rattle.monitor_run.specs.declared.ending.Refusal.{Refusal}
-use Rattle.monitor_run.specs.declared.ending.Refusal.TheVariants.{BadOntology, TooManyRewritings, BadQueries, NotALeaf}
-use Rattle.monitor_run.specs.Containments.{Pair, pair_asked, pair_of, root_leaf, naming_all, leaf_query, first_unless, first_no_leaf, refuses_no_leaf, IsLeafQuery}
+use Rattle.monitor_run.specs.declared.ending.Refusal.TheVariants.{BadOntology, TooManyRewritings}
+use Rattle.monitor_run.specs.declared.ending.Refusal.TheVariants.{BadQueries, NotALeaf}
+use Rattle.monitor_run.specs.Containments.{Pair, pair_asked, pair_of, root_leaf, naming_all}
+use Rattle.monitor_run.specs.Containments.{leaf_query, first_unless, first_no_leaf, refuses_no_leaf}
+use Rattle.monitor_run.specs.Containments.{IsLeafQuery}
 
 if_some : {X : Type 0} (b : Bool) (x y : X) → (if b then Some x else None) ≡ Some y → x ≡ y
 if_some true x y is = cc
@@ -51,7 +55,8 @@ root_is (node.Historically f ∷ nodes) q is = absurd (cc)
 pub leaf_nodes : (query : Tcq) (q : Cq) → leaf_query query ≡ Some q → query.nodes ≡ node.Leaf q ∷ []
 leaf_nodes query q is = root_is query.nodes q (named_is query.vars (root_leaf query.nodes) q is)
 
-pub leaf_there : (query : Tcq) (q : Cq) → leaf_query query ≡ Some q → slice_get query.nodes 0 ≡ Some (node.Leaf q)
+pub leaf_there : (query : Tcq) (q : Cq) → leaf_query query ≡ Some q
+    → slice_get query.nodes 0 ≡ Some (node.Leaf q)
 leaf_there query q is = ap (λ (ns : List Node). slice_get ns 0) (leaf_nodes query q is)
 
 term_below : (bound : ℕ) (x : Term) → IsDeclaredTerm bound x → IsTermBelow bound x
@@ -66,7 +71,8 @@ variable_below : (bound : ℕ) (x : Term) → (v : ℕ) × (x ≡ Var v) → IsT
 variable_below bound x (v, is) = subst (IsTermBelow bound) (sym is) tt
 
 -- it is a query over the ontology
-pub leaf_is_query_of : (o : Declared) (query : Tcq) (q : Cq) → IsTcq query.vars query.nodes → HasDeclaredLeaves o query → leaf_query query ≡ Some q → IsQueryOf o q
+pub leaf_is_query_of : (o : Declared) (query : Tcq) (q : Cq) → IsTcq query.vars query.nodes
+    → HasDeclaredLeaves o query → leaf_query query ≡ Some q → IsQueryOf o q
 leaf_is_query_of o query q valid declared is =
     let there = leaf_there query q is in
     let leaf = valid.leaves 0 q there in
@@ -75,12 +81,16 @@ leaf_is_query_of o query q valid declared is =
       query = leaf.query;
       predicates = own.predicates;
       individuals = (
-        All-weaker (λ (x : Term). (v : ℕ) × (x ≡ Var v)) (IsTermBelow (length o.individuals)) (variable_below (length o.individuals)) q.head leaf.head.variables,
-        All-weaker (HasDeclaredTerms (length o.individuals)) (IsAtomBelow (length o.individuals)) (atom_below (length o.individuals)) q.body own.terms,
+        All-weaker (λ (x : Term). (v : ℕ)
+            × (x ≡ Var v)) (IsTermBelow (length o.individuals))
+            (variable_below (length o.individuals)) q.head leaf.head.variables,
+        All-weaker (HasDeclaredTerms (length o.individuals)) (IsAtomBelow (length o.individuals))
+            (atom_below (length o.individuals)) q.body own.terms,
       );
     }
 
-unless_none : (name : List ℕ) (leaf : Option Cq) (later : Option (List ℕ)) → first_unless name leaf later ≡ None → (leaf ≢ None) × (later ≡ None)
+unless_none : (name : List ℕ) (leaf : Option Cq) (later : Option (List ℕ))
+    → first_unless name leaf later ≡ None → (leaf ≢ None) × (later ≡ None)
 unless_none name None later is = absurd (cc)
 unless_none name (Some q) later is = (λ none. absurd (cc), is)
 
@@ -91,7 +101,8 @@ all_leaf_queries (query ∷ queries) is =
     let both = unless_none query.name (leaf_query query) (first_no_leaf queries) is in
     All-cons IsLeafQuery query queries both.0 (all_leaf_queries queries both.1)
 
-pub takes_leaves : (setting : Setting) → first_no_leaf setting.queries ≡ None → (refusal : Refusal) → ¬ refuses_no_leaf setting refusal
+pub takes_leaves : (setting : Setting) → first_no_leaf setting.queries ≡ None → (refusal : Refusal)
+    → ¬ refuses_no_leaf setting refusal
 takes_leaves setting none (NotALeaf name) own = absurd (cc)
 takes_leaves setting none (BadOntology line kind) own = own
 takes_leaves setting none TooManyRewritings own = own
@@ -104,27 +115,50 @@ asked_none_first name other (Some q) = refl
 -- a query that is no leaf is in no pair
 pub pair_without_first : (query other : Tcq) → leaf_query query ≡ None → pair_of query other ≡ []
 pair_without_first query other none =
-    ap (λ (found : Option Cq). pair_asked query.name other.name found (leaf_query other)) none ∙ asked_none_first query.name other.name (leaf_query other)
+    ap (λ (found : Option Cq). pair_asked query.name other.name found (leaf_query other))
+    none ∙ asked_none_first query.name other.name (leaf_query other)
 
-asked_none_second : (name other : List ℕ) (found : Option Cq) → pair_asked name other found None ≡ []
+asked_none_second : (name other : List ℕ) (found : Option Cq)
+    → pair_asked name other found None ≡ []
 asked_none_second name other None = refl
 asked_none_second name other (Some q) = refl
 
 pub pair_without_second : (query other : Tcq) → leaf_query other ≡ None → pair_of query other ≡ []
 pair_without_second query other none =
-    ap (pair_asked query.name other.name (leaf_query query)) none ∙ asked_none_second query.name other.name (leaf_query query)
+    ap (pair_asked query.name other.name (leaf_query query)) none ∙ asked_none_second query.name
+    other.name (leaf_query query)
 
 abbrev asked_if : Tcq → Tcq → Cq → Cq → Bool → List Pair
 asked_if query other q r b =
-    if b then record { first_name = query.name; first = q; second_name = other.name; second = r } ∷ [] else []
+    if b then record {
+      first_name = query.name;
+      first = q;
+      second_name = other.name;
+      second =
+          r;
+    } ∷ [] else []
 
-both_leaves : (query other : Tcq) (q r : Cq) → leaf_query query ≡ Some q → leaf_query other ≡ Some r → pair_of query other ≡ asked_if query other q r (length q.head == length r.head)
+both_leaves : (query other : Tcq) (q r : Cq) → leaf_query query ≡ Some q → leaf_query other ≡ Some r
+    → pair_of query other ≡ asked_if query other q r (length q.head == length r.head)
 both_leaves query other q r first second =
-    ap (λ (found : Option Cq). pair_asked query.name other.name found (leaf_query other)) first ∙ ap (pair_asked query.name other.name (Some q)) second
+    ap (λ (found : Option Cq). pair_asked query.name other.name found (leaf_query other)) first ∙ ap
+    (pair_asked query.name other.name (Some q)) second
 
 -- two leaves with as many answer variables are a pair
-pub pair_is : (query other : Tcq) (q r : Cq) → leaf_query query ≡ Some q → leaf_query other ≡ Some r → (length q.head == length r.head) ≡ true → pair_of query other ≡ record { first_name = query.name; first = q; second_name = other.name; second = r } ∷ []
-pair_is query other q r first second same = both_leaves query other q r first second ∙ ap (asked_if query other q r) same
+pub pair_is : (query other : Tcq) (q r : Cq) → leaf_query query ≡ Some q → leaf_query other ≡ Some r
+    → (length q.head == length r.head) ≡ true
+    → pair_of query other ≡ record {
+      first_name = query.name;
+      first = q;
+      second_name =
+          other.name;
+      second = r;
+    } ∷ []
+pair_is query other q r first second same =
+    both_leaves query other q r first second ∙ ap (asked_if query other q r) same
 
-pub pair_apart : (query other : Tcq) (q r : Cq) → leaf_query query ≡ Some q → leaf_query other ≡ Some r → (length q.head == length r.head) ≡ false → pair_of query other ≡ []
-pair_apart query other q r first second apart = both_leaves query other q r first second ∙ ap (asked_if query other q r) apart
+pub pair_apart : (query other : Tcq) (q r : Cq) → leaf_query query ≡ Some q
+    → leaf_query other ≡ Some r → (length q.head == length r.head) ≡ false
+    → pair_of query other ≡ []
+pair_apart query other q r first second apart =
+    both_leaves query other q r first second ∙ ap (asked_if query other q r) apart

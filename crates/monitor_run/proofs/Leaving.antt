@@ -4,45 +4,59 @@ use Rattle.std.specs.Prelude.{◌⊎◌}
 use Rattle.command_words.specs.Meanings.{Meaning, rewrite, contain, drill, meaning_of_words}
 use Rattle.command_words.specs.Meanings as meaning
 use Rattle.stream_report.specs.declared.ending.Ending.{Ending}
-use Rattle.stream_report.specs.declared.ending.Ending.TheVariants.{Done, Usage, Refused, ReadFault, WriteFault, Memory, StreamLimit}
+use Rattle.stream_report.specs.declared.ending.Ending.TheVariants.{Done, Usage, Refused, ReadFault}
+use Rattle.stream_report.specs.declared.ending.Ending.TheVariants.{WriteFault, Memory, StreamLimit}
 use Rattle.stream_report.specs.Outside.{FilesTold, Outside}
 use Rattle.stream_report.proofs.TextEndings.{text_leaves}
 use Rattle.monitor_run.specs.declared.ending.Refusal.{Refusal}
-use Rattle.monitor_run.specs.declared.ending.Refusal.TheVariants.{BadOntology, TooManyRewritings, BadQueries, NotALeaf}
+use Rattle.monitor_run.specs.declared.ending.Refusal.TheVariants.{BadOntology, TooManyRewritings}
+use Rattle.monitor_run.specs.declared.ending.Refusal.TheVariants.{BadQueries, NotALeaf}
 use Rattle.monitor_run.specs.declared.ending.Status.TheVariants as status
 use Rattle.monitor_run.specs.Ends.{status_of, status_of_refusal}
 use Rattle.monitor_run.specs.Jobs.{asked_by}
-use Rattle.monitor_run.specs.Laws.{DrillLeaves, RewritingLeaves, ContainmentLeaves, UsageLeaves, RefusalLeaves}
+use Rattle.monitor_run.specs.Laws.{DrillLeaves, RewritingLeaves, ContainmentLeaves, UsageLeaves}
+use Rattle.monitor_run.specs.Laws.{RefusalLeaves}
 use Rattle.monitor_run.specs.Running.{AskedEnds, RunEnds}
 use Rattle.monitor_run.proofs.Completing.{by_meaning}
 
-drill_leaves_both : (seed count : ℕ) (before now : Outside) (ending : Ending Refusal) → AskedEnds (asked_by (drill seed count)) ending before now → (now.files ≡ before.files) × (now.ports.input ≡ before.ports.input)
-drill_leaves_both seed count before now ending (files, inl (fails, untouched)) = (files, untouched.input)
-drill_leaves_both seed count before now ending (files, inr (setting, opens, ends)) = (files, text_leaves _ ending before.ports now.ports ends)
+drill_leaves_both : (seed count : ℕ) (before now : Outside) (ending : Ending Refusal)
+    → AskedEnds (asked_by (drill seed count)) ending before now
+    → (now.files ≡ before.files) × (now.ports.input ≡ before.ports.input)
+drill_leaves_both seed count before now ending (files, inl (fails, untouched)) =
+    (files, untouched.input)
+drill_leaves_both seed count before now ending (files, inr (setting, opens, ends)) =
+    (files, text_leaves _ ending before.ports now.ports ends)
 
 pub drill_leaves : DrillLeaves
 drill_leaves s words before now eb en seed count ran is =
-    by_meaning ((now.files ≡ before.files) × (now.ports.input ≡ before.ports.input)) words (drill seed count) before now is ran.ending
+    by_meaning ((now.files ≡ before.files)
+    × (now.ports.input ≡ before.ports.input)) words (drill seed count) before now is ran.ending
     (λ memory same. (ap (λ (o : Outside). o.files) same, ap (λ (o : Outside). o.ports.input) same))
     (drill_leaves_both seed count before now ran.ending) ran.ends
 
-rewriting_leaves_input : (o q : List ℕ) (before now : Outside) (ending : Ending Refusal) → AskedEnds (asked_by (rewrite o q)) ending before now → now.ports.input ≡ before.ports.input
+rewriting_leaves_input : (o q : List ℕ) (before now : Outside) (ending : Ending Refusal)
+    → AskedEnds (asked_by (rewrite o q)) ending before now → now.ports.input ≡ before.ports.input
 rewriting_leaves_input o q before now ending (stay, inl (fails, untouched)) = untouched.input
-rewriting_leaves_input o q before now ending (stay, inr (setting, opens, ends)) = text_leaves _ ending before.ports now.ports ends
+rewriting_leaves_input o q before now ending (stay, inr (setting, opens, ends)) =
+    text_leaves _ ending before.ports now.ports ends
 
 pub rewriting_leaves : RewritingLeaves
 rewriting_leaves s words before now eb en o q ran is =
     by_meaning (now.ports.input ≡ before.ports.input) words (rewrite o q) before now is ran.ending
-    (λ memory same. ap (λ (o : Outside). o.ports.input) same) (rewriting_leaves_input o q before now ran.ending) ran.ends
+    (λ memory same. ap (λ (o : Outside). o.ports.input) same)
+    (rewriting_leaves_input o q before now ran.ending) ran.ends
 
-containment_leaves_input : (o q : List ℕ) (before now : Outside) (ending : Ending Refusal) → AskedEnds (asked_by (contain o q)) ending before now → now.ports.input ≡ before.ports.input
+containment_leaves_input : (o q : List ℕ) (before now : Outside) (ending : Ending Refusal)
+    → AskedEnds (asked_by (contain o q)) ending before now → now.ports.input ≡ before.ports.input
 containment_leaves_input o q before now ending (stay, inl (fails, untouched)) = untouched.input
-containment_leaves_input o q before now ending (stay, inr (setting, opens, ends)) = text_leaves _ ending before.ports now.ports ends
+containment_leaves_input o q before now ending (stay, inr (setting, opens, ends)) =
+    text_leaves _ ending before.ports now.ports ends
 
 pub containment_leaves : ContainmentLeaves
 containment_leaves s words before now eb en o q ran is =
     by_meaning (now.ports.input ≡ before.ports.input) words (contain o q) before now is ran.ending
-    (λ memory same. ap (λ (o : Outside). o.ports.input) same) (containment_leaves_input o q before now ran.ending) ran.ends
+    (λ memory same. ap (λ (o : Outside). o.ports.input) same)
+    (containment_leaves_input o q before now ran.ending) ran.ends
 
 refusal_is_no_usage : (refusal : Refusal) → status.Usage ≡ status_of_refusal refusal → ⊥
 refusal_is_no_usage (BadOntology line kind) is = cc
@@ -50,7 +64,8 @@ refusal_is_no_usage TooManyRewritings is = cc
 refusal_is_no_usage (BadQueries line kind) is = cc
 refusal_is_no_usage (NotALeaf name) is = cc
 
-usage_untouched : (words : List (List ℕ)) (before now : Outside) (ending : Ending Refusal) → status.Usage ≡ status_of ending → RunEnds ending words before now → now ≡ before
+usage_untouched : (words : List (List ℕ)) (before now : Outside) (ending : Ending Refusal)
+    → status.Usage ≡ status_of ending → RunEnds ending words before now → now ≡ before
 usage_untouched words before now Usage is ends = ends.1
 usage_untouched words before now (Refused refusal) is ends = absurd (refusal_is_no_usage refusal is)
 usage_untouched words before now Done is ends = cc
@@ -60,23 +75,37 @@ usage_untouched words before now Memory is ends = cc
 usage_untouched words before now StreamLimit is ends = cc
 
 pub usage_leaves : UsageLeaves
-usage_leaves words before now eb en ran = usage_untouched words before now ran.ending ran.status_is ran.ends
+usage_leaves words before now eb en ran =
+    usage_untouched words before now ran.ending ran.status_is ran.ends
 
 abbrev Left : Outside → Outside → Type 0
-Left before now = (now.files.held ≡ before.files.held) × (now.ports.input ≡ before.ports.input) × (now.ports.out ≡ before.ports.out)
+Left before now = (now.files.held ≡ before.files.held) × (now.ports.input ≡ before.ports.input)
+    × (now.ports.out ≡ before.ports.out)
 
-refused_leaves : (means : Meaning) (refusal : Refusal) (before now : Outside) → AskedEnds (asked_by means) (Refused refusal) before now → Left before now
-refused_leaves (meaning.watch w) refusal before now (stay, inl (fails, untouched)) = (stay, untouched.input, untouched.out)
-refused_leaves (meaning.watch w) refusal before now (stay, inr (setting, opens, (run, fault))) = absurd run.writes
-refused_leaves (meaning.rewrite o q) refusal before now (stay, inl (fails, untouched)) = (stay, untouched.input, untouched.out)
-refused_leaves (meaning.rewrite o q) refusal before now (stay, inr (setting, opens, (input, (text, is, written), fault))) = absurd written.is
-refused_leaves (meaning.contain o q) refusal before now (stay, inl (fails, untouched)) = (stay, untouched.input, untouched.out)
-refused_leaves (meaning.contain o q) refusal before now (stay, inr (setting, opens, (input, (text, is, written), fault))) = absurd written.is
-refused_leaves (meaning.drill seed count) refusal before now (files, inl (fails, untouched)) = (ap (λ (f : FilesTold). f.held) files, untouched.input, untouched.out)
-refused_leaves (meaning.drill seed count) refusal before now (files, inr (setting, opens, (input, (text, is, written), fault))) = absurd written.is
+refused_leaves : (means : Meaning) (refusal : Refusal) (before now : Outside)
+    → AskedEnds (asked_by means) (Refused refusal) before now → Left before now
+refused_leaves (meaning.watch w) refusal before now (stay, inl (fails, untouched)) =
+    (stay, untouched.input, untouched.out)
+refused_leaves (meaning.watch w) refusal before now (stay, inr (setting, opens, (run, fault))) =
+    absurd run.writes
+refused_leaves (meaning.rewrite o q) refusal before now (stay, inl (fails, untouched)) =
+    (stay, untouched.input, untouched.out)
+refused_leaves (meaning.rewrite o q) refusal before now
+    (stay, inr (setting, opens, (input, (text, is, written), fault))) = absurd written.is
+refused_leaves (meaning.contain o q) refusal before now (stay, inl (fails, untouched)) =
+    (stay, untouched.input, untouched.out)
+refused_leaves (meaning.contain o q) refusal before now
+    (stay, inr (setting, opens, (input, (text, is, written), fault))) = absurd written.is
+refused_leaves (meaning.drill seed count) refusal before now (files, inl (fails, untouched)) =
+    (ap (λ (f : FilesTold). f.held) files, untouched.input, untouched.out)
+refused_leaves (meaning.drill seed count) refusal before now
+    (files, inr (setting, opens, (input, (text, is, written), fault))) = absurd written.is
 
-by_refusal : (words : List (List ℕ)) (before now : Outside) (ending : Ending Refusal) → (status_of ending ≡ status.BadOntology) ⊎ (status_of ending ≡ status.BadQueries) → RunEnds ending words before now → Left before now
-by_refusal words before now (Refused refusal) is p = refused_leaves p.means refusal before now p.ends
+by_refusal : (words : List (List ℕ)) (before now : Outside) (ending : Ending Refusal)
+    → (status_of ending ≡ status.BadOntology) ⊎ (status_of ending ≡ status.BadQueries)
+    → RunEnds ending words before now → Left before now
+by_refusal words before now (Refused refusal) is p =
+    refused_leaves p.means refusal before now p.ends
 by_refusal words before now Usage (inl is) ends = cc
 by_refusal words before now Usage (inr is) ends = cc
 by_refusal words before now Done (inl is) ends = cc
@@ -91,5 +120,7 @@ by_refusal words before now StreamLimit (inl is) ends = cc
 by_refusal words before now StreamLimit (inr is) ends = cc
 
 pub refusal_leaves : RefusalLeaves
-refusal_leaves s words before now eb en ran (inl is) = by_refusal words before now ran.ending (inl (sym ran.status_is ∙ is)) ran.ends
-refusal_leaves s words before now eb en ran (inr is) = by_refusal words before now ran.ending (inr (sym ran.status_is ∙ is)) ran.ends
+refusal_leaves s words before now eb en ran (inl is) =
+    by_refusal words before now ran.ending (inl (sym ran.status_is ∙ is)) ran.ends
+refusal_leaves s words before now eb en ran (inr is) =
+    by_refusal words before now ran.ending (inr (sym ran.status_is ∙ is)) ran.ends

@@ -7,7 +7,8 @@ use Rattle.report_text.specs.declared.event.Event.{Event}
 use Rattle.monitor_core.specs.Setting.{Setting}
 use Rattle.stream_report.specs.Laws.{IsOneValued, HasOneText}
 use Rattle.stream_report.proofs.ReportLaws.{one_report}
-use Rattle.monitor_run.specs.Drill.{Rehearsed, unrehearsed, plain, latest, rehearses, rehearsing, IsDrill}
+use Rattle.monitor_run.specs.Drill.{Rehearsed, unrehearsed, plain, latest, rehearses, rehearsing}
+use Rattle.monitor_run.specs.Drill.{IsDrill}
 use Rattle.monitor_run.specs.Report.{Standing, GoesOn, watches, watching, bytes_of, refused_in}
 use Rattle.monitor_run.specs.ReportLaws.{OneDrill}
 use Rattle.monitor_run.specs.Opening.{Is}
@@ -17,16 +18,23 @@ use Rattle.monitor_run.proofs.GoodSources.{same_setting}
 use Rattle.stream_maker.specs.Ontology.{ontology_text}
 use Rattle.stream_maker.specs.Snapshots.{queries_text}
 
-same_standing : (one other : Standing) → one.history ≡ other.history → one.refused ≡ other.refused → one ≡ other
+same_standing : (one other : Standing) → one.history ≡ other.history → one.refused ≡ other.refused
+    → one ≡ other
 same_standing one other histories counts =
     ap (λ (h : History). record { history = h; refused = one.refused }) histories
     ∙ ap (λ (n : ℕ). record { history = other.history; refused = n }) counts
 
 -- a line is told in one way
-goes_once : (task : Task) (before : Standing) (number : ℕ) (line : StreamLine) (one other : List Event) (after later : Standing) → GoesOn task before number line one after → GoesOn task before number line other later → (one ≡ other) × (after ≡ later)
+goes_once : (task : Task) (before : Standing) (number : ℕ) (line : StreamLine)
+    (one other : List Event) (after later : Standing) → GoesOn task before number line one after
+    → GoesOn task before number line other later → (one ≡ other) × (after ≡ later)
 goes_once task before number line one other after later p q =
-    let same = one_line task before.history number line one other after.history later.history p.0 q.0 in
-    (same.0, same_standing after later same.1 (p.1 ∙ (ap (λ (e : List Event). before.refused + refused_in e) same.0 ∙ sym q.1)))
+    let same = one_line task before.history number line one other after.history later.history p.0
+    q.0 in (
+      same.0,
+      same_standing after later same.1
+          (p.1 ∙ (ap (λ (e : List Event). before.refused + refused_in e) same.0 ∙ sym q.1)),
+    )
 
 watches_once : (task : Task) → IsOneValued (watches task)
 watches_once task before number line one other after later p q =
@@ -36,21 +44,30 @@ watches_once task before number line one other after later p q =
 pub watching_once : (task : Task) → HasOneText (watching task)
 watching_once task = (watches_once task, λ state one other p q. p ∙ sym q)
 
-same_rehearsed : (one other : Rehearsed) → one.standing ≡ other.standing → one.last ≡ other.last → one ≡ other
+same_rehearsed : (one other : Rehearsed) → one.standing ≡ other.standing → one.last ≡ other.last
+    → one ≡ other
 same_rehearsed one other standings events =
     ap (λ (s : Standing). record { standing = s; last = one.last }) standings
     ∙ ap (λ (e : List Event). record { standing = other.standing; last = e }) events
 
 rehearses_once : (task : Task) → IsOneValued (rehearses task)
 rehearses_once task before number line one other after later p q =
-    let same = goes_once task before.standing number line p.1.0 q.1.0 after.standing later.standing p.1.1 q.1.1 in
-    (p.0 ∙ sym q.0, same_rehearsed after later same.1 (p.1.2 ∙ (ap (latest before.last) same.0 ∙ sym q.1.2)))
+    let same = goes_once task before.standing number line p.1.0 q.1.0 after.standing later.standing
+    p.1.1 q.1.1 in (
+      p.0 ∙ sym q.0,
+      same_rehearsed after later same.1
+          (p.1.2 ∙ (ap (latest before.last) same.0 ∙ sym q.1.2)),
+    )
 
 rehearsing_once : (task : Task) → HasOneText (rehearsing task)
 rehearsing_once task = (rehearses_once task, λ state one other p q. p ∙ sym q)
 
 pub one_drill : OneDrill
 one_drill seed count setting later one other opens reopens p q =
-    let same : setting ≡ later = same_setting (Is ontology_text) (Is queries_text) (λ a b x y. x ∙ sym y) (λ a b x y. x ∙ sym y) setting later opens.say reopens.say in
-    one_report (rehearsing (record { setting = later; options = plain })) (rehearsing_once (record { setting = later; options = plain })) unrehearsed (items (stream_text seed count)) one other
+    let same : setting ≡ later =
+    same_setting (Is ontology_text) (Is queries_text) (λ a b x y. x ∙ sym y) (λ a b x y.
+    x ∙ sym y) setting later opens.say reopens.say in
+    one_report (rehearsing (record { setting = later; options = plain }))
+    (rehearsing_once (record { setting = later; options = plain })) unrehearsed
+    (items (stream_text seed count)) one other
     (subst (λ (s : Setting). IsDrill s (stream_text seed count) one) same p) q

@@ -7,7 +7,8 @@ use Rattle.edge_io.proofs.KnownLemmas.{IsFront-refl}
 use Rattle.command_words.specs.Meanings.{Meaning, meaning_of_words}
 use Rattle.command_words.specs.Meanings as meaning
 use Rattle.stream_report.specs.declared.ending.Ending.{Ending}
-use Rattle.stream_report.specs.declared.ending.Ending.TheVariants.{Done, Usage, Refused, ReadFault, WriteFault, Memory, StreamLimit}
+use Rattle.stream_report.specs.declared.ending.Ending.TheVariants.{Done, Usage, Refused, ReadFault}
+use Rattle.stream_report.specs.declared.ending.Ending.TheVariants.{WriteFault, Memory, StreamLimit}
 use Rattle.stream_report.specs.Outside.{SinkTold, Outside}
 use Rattle.stream_report.specs.Writing.{Writes}
 use Rattle.monitor_run.specs.declared.ending.Refusal.{Refusal}
@@ -15,32 +16,50 @@ use Rattle.monitor_run.specs.Jobs.{asked_by}
 use Rattle.monitor_run.specs.Running.{AskedEnds, RunEnds, Says}
 
 -- no command ends as words that mean nothing
-pub never_usage : (means : Meaning) (before now : Outside) → ¬ AskedEnds (asked_by means) Usage before now
+pub never_usage : (means : Meaning) (before now : Outside)
+    → ¬ AskedEnds (asked_by means) Usage before now
 never_usage (meaning.watch w) before now (stay, inl (inl unread, untouched)) = unread
-never_usage (meaning.watch w) before now (stay, inl (inr (setting, say, refused), untouched)) = refused
+never_usage (meaning.watch w) before now (stay, inl (inr (setting, say, refused), untouched)) =
+    refused
 never_usage (meaning.watch w) before now (stay, inr (setting, opens, (run, fault))) = run.writes
 never_usage (meaning.rewrite o q) before now (stay, inl (inl unread, untouched)) = unread
-never_usage (meaning.rewrite o q) before now (stay, inl (inr (setting, say, refused), untouched)) = refused
-never_usage (meaning.rewrite o q) before now (stay, inr (setting, opens, (input, (text, is, written), fault))) = written.is
+never_usage (meaning.rewrite o q) before now (stay, inl (inr (setting, say, refused), untouched)) =
+    refused
+never_usage (meaning.rewrite o q) before now
+    (stay, inr (setting, opens, (input, (text, is, written), fault))) = written.is
 never_usage (meaning.contain o q) before now (stay, inl (inl unread, untouched)) = unread
-never_usage (meaning.contain o q) before now (stay, inl (inr (setting, say, refused), untouched)) = refused
-never_usage (meaning.contain o q) before now (stay, inr (setting, opens, (input, (text, is, written), fault))) = written.is
+never_usage (meaning.contain o q) before now (stay, inl (inr (setting, say, refused), untouched)) =
+    refused
+never_usage (meaning.contain o q) before now
+    (stay, inr (setting, opens, (input, (text, is, written), fault))) = written.is
 never_usage (meaning.drill seed count) before now (stay, inl (inl unread, untouched)) = unread
-never_usage (meaning.drill seed count) before now (stay, inl (inr (setting, say, refused), untouched)) = refused
-never_usage (meaning.drill seed count) before now (stay, inr (setting, opens, (input, (text, is, written), fault))) = written.is
+never_usage (meaning.drill seed count) before now
+    (stay, inl (inr (setting, say, refused), untouched)) = refused
+never_usage (meaning.drill seed count) before now
+    (stay, inr (setting, opens, (input, (text, is, written), fault))) = written.is
 
 -- what the words mean was done
-pub performed : (ending : Ending Refusal) (words : List (List ℕ)) (means : Meaning) (before now : Outside) → meaning_of_words words ≡ Some means → AskedEnds (asked_by means) ending before now → RunEnds ending words before now
+pub performed : (ending : Ending Refusal) (words : List (List ℕ)) (means : Meaning)
+    (before now : Outside) → meaning_of_words words ≡ Some means
+    → AskedEnds (asked_by means) ending before now → RunEnds ending words before now
 performed Usage words means before now is ends = absurd (never_usage means before now ends)
-performed Memory words means before now is ends = inr (record { means = means; words_mean = is; ends = ends })
-performed Done words means before now is ends = record { means = means; words_mean = is; ends = ends }
-performed (Refused refusal) words means before now is ends = record { means = means; words_mean = is; ends = ends }
-performed ReadFault words means before now is ends = record { means = means; words_mean = is; ends = ends }
-performed WriteFault words means before now is ends = record { means = means; words_mean = is; ends = ends }
-performed StreamLimit words means before now is ends = record { means = means; words_mean = is; ends = ends }
+performed Memory words means before now is ends =
+    inr (record { means = means; words_mean = is; ends = ends })
+performed Done words means before now is ends =
+    record { means = means; words_mean = is; ends = ends }
+performed (Refused refusal) words means before now is ends =
+    record { means = means; words_mean = is; ends = ends }
+performed ReadFault words means before now is ends =
+    record { means = means; words_mean = is; ends = ends }
+performed WriteFault words means before now is ends =
+    record { means = means; words_mean = is; ends = ends }
+performed StreamLimit words means before now is ends =
+    record { means = means; words_mean = is; ends = ends }
 
 -- what was said on the error sink
-pub said : (before now : SinkTold) (bytes line : List ℕ) (result : Result (Unit {0}) Failed) → bytes ≡ line → Writes before.got now.got bytes result → HasCause before.faults now.faults result → Says before now line
+pub said : (before now : SinkTold) (bytes line : List ℕ) (result : Result (Unit {0}) Failed)
+    → bytes ≡ line → Writes before.got now.got bytes result
+    → HasCause before.faults now.faults result → Says before now line
 said before now bytes line (Ok u) same writes cause = record {
   wrote = writes.wrote;
   gains = writes.gains;

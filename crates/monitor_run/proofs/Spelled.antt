@@ -5,7 +5,8 @@ use Rattle.tcq_syntax.specs.Tcq.{Tcq}
 use Rattle.tcq_reader.specs.Reading.{SaysQueries}
 use Rattle.tcq_reader.proofs.NamedLemmas.{said_are_named}
 use Rattle.forms.specs.declared.StreamForm.{StreamForm}
-use Rattle.snapshot_reader.specs.Said.{Said, nothing, says, said, is_malformed, unknown, wrong_kind, undeclared, too_many_facts}
+use Rattle.snapshot_reader.specs.Said.{Said, nothing, says, said, is_malformed, unknown, wrong_kind}
+use Rattle.snapshot_reader.specs.Said.{undeclared, too_many_facts}
 use Rattle.snapshot_reader.specs.Said.{Cause as SaidCause, refused as is_refused}
 use Rattle.snapshot_reader.specs.Laws.{CauseIsSpelled}
 use Rattle.snapshot_reader.proofs.RefusedNames.{refuses_names}
@@ -14,7 +15,8 @@ use Rattle.report_text.specs.Names.{AreSpelled, IsSpelledCause}
 use Rattle.monitor_run.specs.Outcome.{cause_of}
 use Rattle.monitor_run.specs.Replies.{IsRefusedFor}
 
-pub queries_spelled : (o : Declared) (text : List ℕ) (queries : List Tcq) → SaysQueries o text queries → AreSpelled queries
+pub queries_spelled : (o : Declared) (text : List ℕ) (queries : List Tcq)
+    → SaysQueries o text queries → AreSpelled queries
 queries_spelled o text queries given = said_are_named o text queries given
 
 same_spelling : (cause : SaidCause) → CauseIsSpelled cause → IsSpelledCause (cause_of cause)
@@ -24,11 +26,14 @@ same_spelling (wrong_kind name) is = is
 same_spelling (undeclared name) is = is
 same_spelling too_many_facts is = tt
 
-by_said : (s : Said) (cause : Cause) → ((c : SaidCause) → s ≡ is_refused c → CauseIsSpelled c) → IsRefusedFor s cause → IsSpelledCause cause
+by_said : (s : Said) (cause : Cause) → ((c : SaidCause) → s ≡ is_refused c → CauseIsSpelled c)
+    → IsRefusedFor s cause → IsSpelledCause cause
 by_said nothing cause law is = absurd is
 by_said (says facts) cause law is = absurd is
 by_said (is_refused c) cause law is = subst IsSpelledCause (sym is) (same_spelling c (law c refl))
 
 -- the cause that a line is refused for has a name where it has one
-pub cause_spelled : (o : Declared) (form : StreamForm) (line : List ℕ) (cause : Cause) → IsRefusedFor (said o form line) cause → IsSpelledCause cause
-cause_spelled o form line cause is = by_said (said o form line) cause (λ c same. refuses_names o form line c same) is
+pub cause_spelled : (o : Declared) (form : StreamForm) (line : List ℕ) (cause : Cause)
+    → IsRefusedFor (said o form line) cause → IsSpelledCause cause
+cause_spelled o form line cause is =
+    by_said (said o form line) cause (λ c same. refuses_names o form line c same) is

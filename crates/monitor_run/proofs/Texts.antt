@@ -1,5 +1,6 @@
 -- Files whose first bytes were fetched, and what their texts say.
-use Rattle.std.proofs.Common.{◌≡◌, ℕ, ◌+◌, ◌<◌, ◌≤◌, ◌⊎◌, inl, inr, true, cond, Option, None, Some, Err, List, length, take, refl, sym, ◌∙◌, ap, subst, arith}
+use Rattle.std.proofs.Common.{◌≡◌, ℕ, ◌+◌, ◌<◌, ◌≤◌, ◌⊎◌, inl, inr, true, cond, Option, None, Some}
+use Rattle.std.proofs.Common.{Err, List, length, take, refl, sym, ◌∙◌, ap, subst, arith}
 use Rattle.std.specs.Prelude.{nat_lt, IsSomeAnd}
 use Rattle.std.proofs.lemmas.Bool.Decides.{nat_tests}
 use Rattle.std.proofs.lemmas.List.{take_all, length-take}
@@ -31,11 +32,15 @@ pub record Fetched (held : Option Store) (name bytes : List ℕ) : Type 0 where
   pub has : HasText held name text
   pub cut : Cut 4194304 text bytes
 
-fetched_file : (files : Store) (name bytes : List ℕ) (file : Option (List ℕ)) → files name ≡ file → IsSomeAnd file (λ content. bytes ≡ take (4194304 + 1) content) → Fetched (Some files) name bytes
+fetched_file : (files : Store) (name bytes : List ℕ) (file : Option (List ℕ)) → files name ≡ file
+    → IsSomeAnd file (λ content. bytes ≡ take (4194304 + 1) content)
+    → Fetched (Some files) name bytes
 fetched_file files name bytes None is there = absurd there
-fetched_file files name bytes (Some content) is there = record { text = content; has = is; cut = cut_of 4194304 content bytes there }
+fetched_file files name bytes (Some content) is there =
+    record { text = content; has = is; cut = cut_of 4194304 content bytes there }
 
-pub fetched : (held : Option Store) (name bytes : List ℕ) → IsFetched held name 4194304 bytes → Fetched held name bytes
+pub fetched : (held : Option Store) (name bytes : List ℕ) → IsFetched held name 4194304 bytes
+    → Fetched held name bytes
 fetched None name bytes is = record { text = bytes; has = tt; cut = inl refl }
 fetched (Some files) name bytes is = fetched_file files name bytes (files name) refl is
 
@@ -45,14 +50,22 @@ too_long text long =
     let test : nat_lt 4194304 (length text) ≡ true = grind (arith, nat_tests) in
     ap (λ b. cond b (Err (0, TooLong)) (lines_added 0 nothing_declared (lines_of text))) test
 
-pub same_ontology : (text bytes : List ℕ) → Cut 4194304 text bytes → text_says text ≡ text_says bytes
+pub same_ontology : (text bytes : List ℕ) → Cut 4194304 text bytes
+    → text_says text ≡ text_says bytes
 same_ontology text bytes (inl same) = ap text_says same
 same_ontology text bytes (inr long) = too_long text long.0 ∙ sym (too_long bytes long.1)
 
-pub queries_there : (ontology : Declared) (text bytes : List ℕ) (queries : List Tcq) → Cut 4194304 text bytes → SaysQueries ontology bytes queries → SaysQueries ontology text queries
-queries_there ontology text bytes queries (inl same) says = subst (λ (t : List ℕ). SaysQueries ontology t queries) (sym same) says
-queries_there ontology text bytes queries (inr long) says = let short : length bytes ≤ 4194304 = says.short in absurd (omega (arith, long.1))
+pub queries_there : (ontology : Declared) (text bytes : List ℕ) (queries : List Tcq)
+    → Cut 4194304 text bytes → SaysQueries ontology bytes queries
+    → SaysQueries ontology text queries
+queries_there ontology text bytes queries (inl same) says =
+    subst (λ (t : List ℕ). SaysQueries ontology t queries) (sym same) says
+queries_there ontology text bytes queries (inr long) says = let short : length bytes ≤ 4194304 =
+    says.short in absurd (omega (arith, long.1))
 
-pub fault_there : (ontology : Declared) (text bytes : List ℕ) (line : ℕ) (kind : QueryKind) → Cut 4194304 text bytes → IsFault ontology bytes line kind → IsFault ontology text line kind
-fault_there ontology text bytes line kind (inl same) is = subst (λ (t : List ℕ). IsFault ontology t line kind) (sym same) is
-fault_there ontology text bytes line kind (inr long) is = fault_too_long ontology bytes text line long.1 long.0 kind is
+pub fault_there : (ontology : Declared) (text bytes : List ℕ) (line : ℕ) (kind : QueryKind)
+    → Cut 4194304 text bytes → IsFault ontology bytes line kind → IsFault ontology text line kind
+fault_there ontology text bytes line kind (inl same) is =
+    subst (λ (t : List ℕ). IsFault ontology t line kind) (sym same) is
+fault_there ontology text bytes line kind (inr long) is =
+    fault_too_long ontology bytes text line long.1 long.0 kind is

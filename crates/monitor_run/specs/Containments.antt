@@ -1,5 +1,6 @@
 -- Which queries are contained in which others, and what is told of it.
-use Rattle.std.specs.Prelude.{◌≡◌, ◌≢◌, ◌==◌, nat_lt, ℕ, ◌+◌, ◌-◌, List, [], ◌∷◌, ◌++◌, codes, decimal, flat_map, if◌then◌else◌, length, Option, None, Some, Vec}
+use Rattle.std.specs.Prelude.{◌≡◌, ◌≢◌, ◌==◌, nat_lt, ℕ, ◌+◌, ◌-◌, List, [], ◌∷◌, ◌++◌, codes}
+use Rattle.std.specs.Prelude.{decimal, flat_map, if◌then◌else◌, length, Option, None, Some, Vec}
 use Rattle.std.specs.Global.{Global}
 use Rattle.std.specs.List.{AllZip}
 use Rattle.dl_syntax.specs.declared.names.IndId.{IndId}
@@ -19,12 +20,14 @@ use Rattle.contain_test.specs.declared.deciding.Containment.TheVariants.{Yes, No
 use Rattle.contain_test.specs.Contained.{IsExact}
 use Rattle.monitor_core.specs.Setting.{Setting}
 use Rattle.monitor_run.specs.declared.ending.Refusal.{Refusal}
-use Rattle.monitor_run.specs.declared.ending.Refusal.TheVariants.{BadOntology, TooManyRewritings, BadQueries, NotALeaf}
+use Rattle.monitor_run.specs.declared.ending.Refusal.TheVariants.{BadOntology, TooManyRewritings}
+use Rattle.monitor_run.specs.declared.ending.Refusal.TheVariants.{BadQueries, NotALeaf}
 use Rattle.monitor_run.specs.Names.{name_in}
 
 -- ---- which queries are compared
 
--- the conjunctive query that a formula is, where its root is a leaf: a tree whose root is a leaf has no other node
+-- the conjunctive query that a formula is, where its root is a leaf: a tree whose root is a leaf
+-- has no other node
 abbrev pub root_leaf : List Node → Option Cq
 root_leaf (node.Leaf q ∷ []) = Some q
 root_leaf _ = None
@@ -87,8 +90,8 @@ pairs queries = pairs_from queries 0 queries
 
 -- ---- what is told
 
--- a declared individual is told by its name, and the nth variable of a frozen query, the individual n places after
--- the declared ones, by an asterisk and n
+-- a declared individual is told by its name, and the nth variable of a frozen query, the individual
+-- n places after the declared ones, by an asterisk and n
 abbrev pub individual_text : Declared → IndId → List ℕ
 individual_text ontology i =
     if nat_lt i.0 (length ontology.individuals) then name_text ontology.individuals i.0
@@ -140,10 +143,11 @@ IsContainment setting text = TellsPairs setting.ontology (pairs setting.queries)
 -- ---- parts
 
 -- a text gained what is told of pairs
-pub record TellsMorePairs (ontology : Declared) (pairs : List Pair) (before now : List ℕ) : Type 0 where
-  pub told : List ℕ
-  pub tells : TellsPairs ontology pairs told
-  pub gains : now ≡ before ++ told
+pub record TellsMorePairs (ontology : Declared) (pairs : List Pair) (before now : List ℕ) : Type 0
+  where
+    pub told : List ℕ
+    pub tells : TellsPairs ontology pairs told
+    pub gains : now ≡ before ++ told
 
 -- the query is a leaf that names all its answer variables
 abbrev pub IsLeafQuery : Tcq → Type 0
@@ -151,7 +155,8 @@ IsLeafQuery query = leaf_query query ≢ None
 
 -- the union is the rewriting of the query's leaf
 abbrev pub IsUnionOf : Encoded → Tcq → Vec Cq Global → Type 0
-IsUnionOf e query union = (q : Cq) → leaf_query query ≡ Some q → Lists (PlainReachable e q) union.items
+IsUnionOf e query union = (q : Cq) → leaf_query query ≡ Some q
+    → Lists (PlainReachable e q) union.items
 
 -- the unions are the rewritings of the queries, one for each
 abbrev pub AreUnionsOf : Encoded → List Tcq → List (Vec Cq Global) → Type 0

@@ -15,8 +15,8 @@ use Rattle.monitor_run.specs.Task.{Task}
 abbrev pub plain : Options
 plain = record { form = form.Text; report = report.Lines line.Text; sizes = false }
 
--- where a drill stands between lines: where a watch would stand, and what a watch would have told of
--- the last line of which it tells anything
+-- where a drill stands between lines: where a watch would stand, and what a watch would have told
+-- of the last line of which it tells anything
 pub record Rehearsed : Type 0 where
   pub standing : Standing
   pub last : List Event
@@ -49,4 +49,5 @@ rehearsing task = record {
 -- what a drill tells of a stream
 abbrev pub IsDrill : Setting → List ℕ → List ℕ → Type 0
 IsDrill setting stream text =
-    Report (rehearsing (record { setting = setting; options = plain })) unrehearsed (items stream) text
+    Report (rehearsing (record { setting = setting; options = plain })) unrehearsed (items stream)
+    text

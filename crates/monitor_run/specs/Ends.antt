@@ -5,9 +5,11 @@ use Rattle.ontology_reader.specs.declared.OntologyKind.TheVariants as kind
 use Rattle.tcq_reader.specs.declared.faults.QueryKind.{QueryKind}
 use Rattle.tcq_reader.specs.declared.faults.QueryKind.TheVariants as query_kind
 use Rattle.stream_report.specs.declared.ending.Ending.{Ending}
-use Rattle.stream_report.specs.declared.ending.Ending.TheVariants.{Done, Usage, Refused, ReadFault, WriteFault, Memory, StreamLimit}
+use Rattle.stream_report.specs.declared.ending.Ending.TheVariants.{Done, Usage, Refused, ReadFault}
+use Rattle.stream_report.specs.declared.ending.Ending.TheVariants.{WriteFault, Memory, StreamLimit}
 use Rattle.monitor_run.specs.declared.ending.Refusal.{Refusal}
-use Rattle.monitor_run.specs.declared.ending.Refusal.TheVariants.{BadOntology, TooManyRewritings, BadQueries, NotALeaf}
+use Rattle.monitor_run.specs.declared.ending.Refusal.TheVariants.{BadOntology, TooManyRewritings}
+use Rattle.monitor_run.specs.declared.ending.Refusal.TheVariants.{BadQueries, NotALeaf}
 use Rattle.monitor_run.specs.declared.ending.Status.{Status}
 use Rattle.monitor_run.specs.Names.{name_in}
 use Rattle.monitor_run.specs.declared.ending.Status.TheVariants as status
@@ -48,9 +50,11 @@ query_kind_text query_kind.TooLong = codes "too-long"
 
 -- why sources were refused
 abbrev pub refusal_text : Refusal → List ℕ
-refusal_text (BadOntology line kind) = codes "ontology line " ++ decimal line ++ codes ": " ++ kind_text kind
+refusal_text (BadOntology line kind) =
+    codes "ontology line " ++ decimal line ++ codes ": " ++ kind_text kind
 refusal_text TooManyRewritings = codes "ontology: too-many-rewritings"
-refusal_text (BadQueries line kind) = codes "queries line " ++ decimal line ++ codes ": " ++ query_kind_text kind
+refusal_text (BadQueries line kind) =
+    codes "queries line " ++ decimal line ++ codes ": " ++ query_kind_text kind
 refusal_text (NotALeaf name) = codes "queries: not-a-leaf " ++ name_in name
 
 -- what is said of an ending that is said

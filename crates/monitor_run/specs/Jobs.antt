@@ -23,7 +23,13 @@ pub data Asked : Type 0 where
 
 -- what is asked for by the words that mean this
 abbrev pub asked_by : Meaning → Asked
-asked_by (meaning.watch w) = on_files (record { ontology = w.ontology; queries = w.queries }) (Watch (options_of w))
-asked_by (meaning.rewrite ontology queries) = on_files (record { ontology = ontology; queries = queries }) Rewrite
-asked_by (meaning.contain ontology queries) = on_files (record { ontology = ontology; queries = queries }) Contain
+asked_by (meaning.watch w) = on_files (record {
+  ontology = w.ontology;
+  queries =
+      w.queries;
+}) (Watch (options_of w))
+asked_by (meaning.rewrite ontology queries) =
+    on_files (record { ontology = ontology; queries = queries }) Rewrite
+asked_by (meaning.contain ontology queries) =
+    on_files (record { ontology = ontology; queries = queries }) Contain
 asked_by (meaning.drill seed count) = drill seed count

@@ -8,7 +8,8 @@ use Rattle.monitor_core.specs.Setting.{Setting}
 use Rattle.stream_report.specs.Told.{Part}
 use Rattle.stream_report.specs.Outside.{SinkTold, Outside}
 use Rattle.monitor_run.specs.declared.ending.Status.{Status}
-use Rattle.monitor_run.specs.declared.ending.Status.TheVariants.{Done, Usage, BadOntology, BadQueries, Memory, StreamLimit}
+use Rattle.monitor_run.specs.declared.ending.Status.TheVariants.{Done, Usage, BadOntology}
+use Rattle.monitor_run.specs.declared.ending.Status.TheVariants.{BadQueries, Memory, StreamLimit}
 use Rattle.monitor_run.specs.declared.ending.Refusal.{Refusal}
 use Rattle.monitor_run.specs.Containments.{refuses_no_leaf}
 use Rattle.monitor_run.specs.Jobs.{FileNames}
@@ -21,8 +22,10 @@ use Rattle.monitor_run.specs.Sources.{nothing_more, Opens, FilesSay}
 abbrev pub IsDone : Status → Type 0
 IsDone status = (status ≡ Done) ⊎ (status ≡ Memory)
 
--- the files of these names have no fault, a job that refuses so by itself takes what they say, they reach no more than may be, and neither they nor the output had a fault
-pub record HasGoodFiles (own : Setting → Refusal → Type 0) (names : FileNames) (before now : Outside) : Type 0 where
+-- the files of these names have no fault, a job that refuses so by itself takes what they say, they
+-- reach no more than may be, and neither they nor the output had a fault
+pub record HasGoodFiles (own : Setting → Refusal
+    → Type 0) (names : FileNames) (before now : Outside) : Type 0 where
   pub files : Store
   pub held : before.files.held ≡ Some files
   pub setting : Setting
@@ -30,11 +33,16 @@ pub record HasGoodFiles (own : Setting → Refusal → Type 0) (names : FileName
   pub no_file_fault : ¬ Rose before.files.faults now.files.faults
   pub no_write_fault : ¬ Rose before.ports.out.faults now.ports.out.faults
 
--- the words are of a watch of such files, the stream is within its limit, and its count did not rise either
+-- the words are of a watch of such files, the stream is within its limit, and its count did not
+-- rise either
 pub record IsGood (words : List (List ℕ)) (before now : Outside) : Type 0 where
   pub asked : Watching
   pub words_mean : meaning_of_words words ≡ Some (watch asked)
-  pub files : HasGoodFiles nothing_more (record { ontology = asked.ontology; queries = asked.queries }) before now
+  pub files : HasGoodFiles nothing_more (record {
+    ontology = asked.ontology;
+    queries =
+        asked.queries;
+  }) before now
   pub stream : List ℕ
   pub left : before.ports.input.left ≡ Some stream
   pub short : length stream ≤ 2 ^ 40
@@ -46,7 +54,8 @@ pub record IsGoodRewriting (words : List (List ℕ)) (before now : Outside) : Ty
   pub words_mean : meaning_of_words words ≡ Some (rewrite names.ontology names.queries)
   pub files : HasGoodFiles nothing_more names before now
 
--- the words are of a test of containment by such files, whose queries are leaves that name all their answer variables
+-- the words are of a test of containment by such files, whose queries are leaves that name all
+-- their answer variables
 pub record IsGoodContainment (words : List (List ℕ)) (before now : Outside) : Type 0 where
   pub names : FileNames
   pub words_mean : meaning_of_words words ≡ Some (contain names.ontology names.queries)
@@ -64,46 +73,58 @@ pub record IsGoodDrill (words : List (List ℕ)) (before now : Outside) : Type 0
 -- where nothing fails a watch is done, but for want of memory
 abbrev pub Completeness : Type 0
 Completeness =
-    (status : Status) (words : List (List ℕ)) (before now : Outside) (err_before err_now : SinkTold) →
+    (status : Status) (words : List (List ℕ)) (before now : Outside) (err_before err_now : SinkTold)
+    →
     Ran status words before now err_before err_now → IsGood words before now → IsDone status
 
 -- so is a rewriting
 abbrev pub RewritingCompleteness : Type 0
 RewritingCompleteness =
-    (status : Status) (words : List (List ℕ)) (before now : Outside) (err_before err_now : SinkTold) →
-    Ran status words before now err_before err_now → IsGoodRewriting words before now → IsDone status
+    (status : Status) (words : List (List ℕ)) (before now : Outside) (err_before err_now : SinkTold)
+    →
+    Ran status words before now err_before err_now → IsGoodRewriting words before now
+    → IsDone status
 
 -- a test of containment
 abbrev pub ContainmentCompleteness : Type 0
 ContainmentCompleteness =
-    (status : Status) (words : List (List ℕ)) (before now : Outside) (err_before err_now : SinkTold) →
-    Ran status words before now err_before err_now → IsGoodContainment words before now → IsDone status
+    (status : Status) (words : List (List ℕ)) (before now : Outside) (err_before err_now : SinkTold)
+    →
+    Ran status words before now err_before err_now → IsGoodContainment words before now
+    → IsDone status
 
 -- and a drill
 abbrev pub DrillCompleteness : Type 0
 DrillCompleteness =
-    (status : Status) (words : List (List ℕ)) (before now : Outside) (err_before err_now : SinkTold) →
+    (status : Status) (words : List (List ℕ)) (before now : Outside) (err_before err_now : SinkTold)
+    →
     Ran status words before now err_before err_now → IsGoodDrill words before now → IsDone status
 
 -- a drill leaves the files and the input as they were
 abbrev pub DrillLeaves : Type 0
 DrillLeaves =
-    (status : Status) (words : List (List ℕ)) (before now : Outside) (err_before err_now : SinkTold) (seed count : ℕ) →
-    Ran status words before now err_before err_now → meaning_of_words words ≡ Some (drill seed count) →
+    (status : Status) (words : List (List ℕ)) (before now : Outside) (err_before err_now : SinkTold)
+    (seed count : ℕ) →
+    Ran status words before now err_before err_now
+    → meaning_of_words words ≡ Some (drill seed count) →
     (now.files ≡ before.files) × (now.ports.input ≡ before.ports.input)
 
 -- a rewriting leaves the input as it was
 abbrev pub RewritingLeaves : Type 0
 RewritingLeaves =
-    (status : Status) (words : List (List ℕ)) (before now : Outside) (err_before err_now : SinkTold) (ontology queries : List ℕ) →
-    Ran status words before now err_before err_now → meaning_of_words words ≡ Some (rewrite ontology queries) →
+    (status : Status) (words : List (List ℕ)) (before now : Outside) (err_before err_now : SinkTold)
+    (ontology queries : List ℕ) →
+    Ran status words before now err_before err_now
+    → meaning_of_words words ≡ Some (rewrite ontology queries) →
     now.ports.input ≡ before.ports.input
 
 -- so does a test of containment
 abbrev pub ContainmentLeaves : Type 0
 ContainmentLeaves =
-    (status : Status) (words : List (List ℕ)) (before now : Outside) (err_before err_now : SinkTold) (ontology queries : List ℕ) →
-    Ran status words before now err_before err_now → meaning_of_words words ≡ Some (contain ontology queries) →
+    (status : Status) (words : List (List ℕ)) (before now : Outside) (err_before err_now : SinkTold)
+    (ontology queries : List ℕ) →
+    Ran status words before now err_before err_now
+    → meaning_of_words words ≡ Some (contain ontology queries) →
     now.ports.input ≡ before.ports.input
 
 -- words of no command leave everything as it was
@@ -115,30 +136,42 @@ UsageLeaves =
 -- a run whose sources are refused leaves the files, the input and the output as they were
 abbrev pub RefusalLeaves : Type 0
 RefusalLeaves =
-    (status : Status) (words : List (List ℕ)) (before now : Outside) (err_before err_now : SinkTold) →
-    Ran status words before now err_before err_now → (status ≡ BadOntology) ⊎ (status ≡ BadQueries) →
-    (now.files.held ≡ before.files.held) × (now.ports.input ≡ before.ports.input) × (now.ports.out ≡ before.ports.out)
+    (status : Status) (words : List (List ℕ)) (before now : Outside) (err_before err_now : SinkTold)
+    →
+    Ran status words before now err_before err_now → (status ≡ BadOntology) ⊎ (status ≡ BadQueries)
+    →
+    (now.files.held ≡ before.files.held) × (now.ports.input ≡ before.ports.input)
+    × (now.ports.out ≡ before.ports.out)
 
 -- a watch whose files, input and output are told took these bytes and wrote these
-pub record Watches (words : List (List ℕ)) (before now : Outside) (taken wrote : List ℕ) : Type 0 where
-  pub asked : Watching
-  pub words_mean : meaning_of_words words ≡ Some (watch asked)
-  pub files : Store
-  pub held : before.files.held ≡ Some files
-  pub setting : Setting
-  pub opens : Opens nothing_more (FilesSay before.files.held (record { ontology = asked.ontology; queries = asked.queries })) setting
-  pub left : List ℕ
-  pub input_before : before.ports.input.left ≡ Some (taken ++ left)
-  pub input_now : now.ports.input.left ≡ Some left
-  pub got : List ℕ
-  pub out_before : before.ports.out.got ≡ Some got
-  pub out_now : now.ports.out.got ≡ Some (got ++ wrote)
+pub record Watches (words : List (List ℕ)) (before now : Outside) (taken wrote : List ℕ) : Type 0
+  where
+    pub asked : Watching
+    pub words_mean : meaning_of_words words ≡ Some (watch asked)
+    pub files : Store
+    pub held : before.files.held ≡ Some files
+    pub setting : Setting
+    pub opens : Opens nothing_more (FilesSay before.files.held (record {
+      ontology =
+          asked.ontology;
+      queries = asked.queries;
+    })) setting
+    pub left : List ℕ
+    pub input_before : before.ports.input.left ≡ Some (taken ++ left)
+    pub input_now : now.ports.input.left ≡ Some left
+    pub got : List ℕ
+    pub out_before : before.ports.out.got ≡ Some got
+    pub out_now : now.ports.out.got ≡ Some (got ++ wrote)
 
--- it ends at the limit exactly where more was taken and the report of the complete lines was written, but for want of memory
+-- it ends at the limit exactly where more was taken and the report of the complete lines was
+-- written, but for want of memory
 abbrev pub LimitComesExactly : Type 0
 LimitComesExactly =
-    (status : Status) (words : List (List ℕ)) (before now : Outside) (err_before err_now : SinkTold) (taken wrote : List ℕ) →
-    Ran status words before now err_before err_now → (w : Watches words before now taken wrote) → status ≢ Memory →
+    (status : Status) (words : List (List ℕ)) (before now : Outside) (err_before err_now : SinkTold)
+    (taken wrote : List ℕ) →
+    Ran status words before now err_before err_now → (w : Watches words before now taken wrote)
+    → status ≢ Memory →
     ((status ≡ StreamLimit)
     ↔ ((2 ^ 40 < length taken)
-    × Part (watching (record { setting = w.setting; options = options_of w.asked })) start (whole_items taken) wrote))
+    × Part (watching (record { setting = w.setting; options = options_of w.asked })) start
+    (whole_items taken) wrote))

@@ -4,10 +4,13 @@ use Rattle.dl_syntax.specs.declared.facts.Fact.{Fact}
 use Rattle.dl_syntax.specs.Ontology.{Declared}
 use Rattle.edge_io.specs.Lines.{Item as StreamLine, text, too_long}
 use Rattle.forms.specs.declared.StreamForm.{StreamForm}
-use Rattle.snapshot_reader.specs.Said.{Cause as SaidCause, is_malformed, unknown, wrong_kind, undeclared, too_many_facts, Said, nothing, says, said}
+use Rattle.snapshot_reader.specs.Said.{Cause as SaidCause, is_malformed, unknown, wrong_kind}
+use Rattle.snapshot_reader.specs.Said.{undeclared, too_many_facts, Said, nothing, says, said}
 use Rattle.snapshot_reader.specs.Said.{refused as is_refused}
 use Rattle.report_text.specs.declared.item.Cause.{Cause}
-use Rattle.report_text.specs.declared.item.Cause.TheVariants.{TooLong, Malformed, Unknown, WrongKind, Undeclared, TooManyFacts, Contradiction}
+use Rattle.report_text.specs.declared.item.Cause.TheVariants.{TooLong, Malformed, Unknown}
+use Rattle.report_text.specs.declared.item.Cause.TheVariants.{WrongKind, Undeclared, TooManyFacts}
+use Rattle.report_text.specs.declared.item.Cause.TheVariants.{Contradiction}
 use Rattle.consistency.specs.Least.{IsLeastClash, IsConsistentUnder}
 
 pub data Outcome : Type 0 where
@@ -26,9 +29,11 @@ cause_of too_many_facts = TooManyFacts
 -- a snapshot is refused for the least clash that it meets, or accepted where it is consistent
 abbrev pub SnapshotHas : Declared → List Fact → Outcome → Type 0
 SnapshotHas ontology snapshot skip = ⊥
-SnapshotHas ontology snapshot (refused (Contradiction number)) = IsLeastClash ontology snapshot number
+SnapshotHas ontology snapshot (refused (Contradiction number)) =
+    IsLeastClash ontology snapshot number
 SnapshotHas ontology snapshot (refused _) = ⊥
-SnapshotHas ontology snapshot (accepted taken) = (taken ≡ snapshot) × IsConsistentUnder ontology snapshot
+SnapshotHas ontology snapshot (accepted taken) =
+    (taken ≡ snapshot) × IsConsistentUnder ontology snapshot
 
 abbrev pub SaidHas : Declared → Said → Outcome → Type 0
 SaidHas ontology nothing outcome = outcome ≡ skip

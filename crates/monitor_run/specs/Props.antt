@@ -7,10 +7,13 @@ use Rattle.dl_syntax.specs.Ontology.{Declared}
 use Rattle.dl_syntax.specs.Rows.{Relation}
 use Rattle.tcq_syntax.specs.Tcq.{Tcq}
 use Rattle.report_text.specs.declared.item.Cause.{Cause}
-use Rattle.report_text.specs.declared.item.Cause.TheVariants.{TooLong, Malformed, Unknown, WrongKind, Undeclared, TooManyFacts, Contradiction}
+use Rattle.report_text.specs.declared.item.Cause.TheVariants.{TooLong, Malformed, Unknown}
+use Rattle.report_text.specs.declared.item.Cause.TheVariants.{WrongKind, Undeclared, TooManyFacts}
+use Rattle.report_text.specs.declared.item.Cause.TheVariants.{Contradiction}
 use Rattle.report_text.specs.declared.event.Event.{Event}
 use Rattle.report_text.specs.declared.event.Event.TheVariants.{Accepted, Refused, End}
-use Rattle.report_text.specs.Events.{HasSizes, AreAnswered, HasAnswers, IsSpelledEvent, EventHasNames}
+use Rattle.report_text.specs.Events.{HasSizes, AreAnswered, HasAnswers, IsSpelledEvent}
+use Rattle.report_text.specs.Events.{EventHasNames}
 use Rattle.report_text.specs.Names.{IsSpelledCause}
 use Rattle.monitor_core.specs.Setting.{Setting}
 use Rattle.monitor_run.specs.Replies.{HasNamesOf}
@@ -34,11 +37,14 @@ IsSpelledCause-prop (Contradiction number) = Prim.hlevel std.props
 
 ruleset parts = (std.props, IsName-prop, HasSizes-prop, IsSpelledCause-prop)
 
-AreAnswered-prop : (ontology : Declared) (queries : List Tcq) (kept : Option (List ℕ)) (answers : List Relation) → IsProp (AreAnswered ontology queries kept answers)
+AreAnswered-prop : (ontology : Declared) (queries : List Tcq) (kept : Option (List ℕ))
+    (answers : List Relation) → IsProp (AreAnswered ontology queries kept answers)
 AreAnswered-prop ontology queries kept answers = Prim.hlevel parts
 
-HasAnswers-prop : (ontology : Declared) (queries : List Tcq) (event : Event) → IsProp (HasAnswers ontology queries event)
-HasAnswers-prop ontology queries (Accepted line number answers kept) = AreAnswered-prop ontology queries kept answers
+HasAnswers-prop : (ontology : Declared) (queries : List Tcq) (event : Event)
+    → IsProp (HasAnswers ontology queries event)
+HasAnswers-prop ontology queries (Accepted line number answers kept) =
+    AreAnswered-prop ontology queries kept answers
 HasAnswers-prop ontology queries (Refused line cause) = Prim.hlevel std.props
 HasAnswers-prop ontology queries (End accepted refused) = Prim.hlevel std.props
 
@@ -49,7 +55,8 @@ IsSpelledEvent-prop (End accepted refused) = Prim.hlevel std.props
 
 ruleset event_parts = (parts, HasAnswers-prop, IsSpelledEvent-prop)
 
-EventHasNames-prop : (ontology : Declared) (queries : List Tcq) (event : Event) → IsProp (EventHasNames ontology queries event)
+EventHasNames-prop : (ontology : Declared) (queries : List Tcq) (event : Event)
+    → IsProp (EventHasNames ontology queries event)
 EventHasNames-prop ontology queries event = Prim.hlevel event_parts
 
 pub HasNamesOf-prop : (setting : Setting) (told : Option Event) → IsProp (HasNamesOf setting told)

@@ -37,17 +37,21 @@ IsRefusedFor (says snapshot) why = ⊥
 
 -- the event tells that the line with this number was refused for the clash that the snapshot met
 abbrev pub IsRefusal : ℕ → AcceptFault → Event → Type 0
-IsRefusal number (fault.Contradiction clash) told = told ≡ event.Refused number (cause.Contradiction clash)
+IsRefusal number (fault.Contradiction clash) told =
+    told ≡ event.Refused number (cause.Contradiction clash)
 IsRefusal number fault.Memory told = ⊥
 
--- a monitor that stood for the history replied to the line with this number by this event, or by none
-pub record AcceptsLine (options : Options) (old new : Monitored) (line : StreamLine) (number : ℕ) (told : Option Event) (history : History) : Type 0 where
+-- a monitor that stood for the history replied to the line with this number by this event, or by
+-- none
+pub record AcceptsLine (options : Options) (old new : Monitored) (line : StreamLine) (number : ℕ)
+    (told : Option Event) (history : History) : Type 0 where
   pub after : History
   pub stands : Stands new after
   pub tells : TellsLine (task_of options old) history number line (told_by told) after
 
 -- and what is told was gathered behind the buffer's bytes, of so many refusals
-pub record Replied (options : Options) (old new : Monitored) (line : StreamLine) (number : ℕ) (history : History) (before now : List ℕ) (refused : ℕ) : Type 0 where
+pub record Replied (options : Options) (old new : Monitored) (line : StreamLine) (number : ℕ)
+    (history : History) (before now : List ℕ) (refused : ℕ) : Type 0 where
   pub told : Option Event
   pub accepts : AcceptsLine options old new line number told history
   pub gathers : now ≡ before ++ bytes_of (task_of options old) (told_by told)

@@ -13,7 +13,8 @@ use Rattle.monitor_run.specs.Told.{TellsLine}
 
 -- the bytes that tell an event
 abbrev pub bytes_of_event : Task → Event → List ℕ
-bytes_of_event task event = event_text task.options.report task.setting.ontology task.setting.queries event
+bytes_of_event task event = event_text task.options.report task.setting.ontology
+    task.setting.queries event
 
 abbrev pub bytes_of : Task → List Event → List ℕ
 bytes_of task told = flat_map (bytes_of_event task) told
@@ -29,7 +30,8 @@ is_refusal _ = false
 abbrev pub refused_in : List Event → ℕ
 refused_in told = count_by is_refusal told
 
--- where a watch stands between lines: the snapshots accepted so far, and how many lines were refused
+-- where a watch stands between lines: the snapshots accepted so far, and how many lines were
+-- refused
 pub record Standing : Type 0 where
   pub history : History
   pub refused : ℕ

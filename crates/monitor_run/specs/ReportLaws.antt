@@ -65,21 +65,25 @@ BeginsWhole = (task : Task) → streams.BeginsWhole (watching task)
 abbrev pub CutShort : Type 0
 CutShort = (task : Task) → streams.CutShort (watching task)
 
--- a watch ends at the limit exactly where more was taken and the report of the complete lines was written, but for want of memory
+-- a watch ends at the limit exactly where more was taken and the report of the complete lines was
+-- written, but for want of memory
 abbrev pub LimitIsExact : Type 0
 LimitIsExact = (task : Task) → streams.LimitIsExact Refusal (watching task)
 
 -- the rewritings of the same queries are one text
 abbrev pub OneRewriting : Type 0
-OneRewriting = (setting : Setting) (one other : List ℕ) → IsRewriting setting one → IsRewriting setting other → one ≡ other
+OneRewriting = (setting : Setting) (one other : List ℕ) → IsRewriting setting one
+    → IsRewriting setting other → one ≡ other
 
 -- the containments of the same queries are one text
 abbrev pub OneContainment : Type 0
-OneContainment = (setting : Setting) (one other : List ℕ) → IsContainment setting one → IsContainment setting other → one ≡ other
+OneContainment = (setting : Setting) (one other : List ℕ) → IsContainment setting one
+    → IsContainment setting other → one ≡ other
 
 -- the drill of one seed and count is one text
 abbrev pub OneDrill : Type 0
 OneDrill =
     (seed count : ℕ) (setting later : Setting) (one other : List ℕ) →
     Opens nothing_more MadeSay setting → Opens nothing_more MadeSay later →
-    IsDrill setting (stream_text seed count) one → IsDrill later (stream_text seed count) other → one ≡ other
+    IsDrill setting (stream_text seed count) one → IsDrill later (stream_text seed count) other
+    → one ≡ other

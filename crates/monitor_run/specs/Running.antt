@@ -22,9 +22,11 @@ use Rattle.monitor_run.specs.Jobs.{FileNames, Asked, on_files, drill, asked_by}
 use Rattle.monitor_run.specs.Leaves.{IsRewriting}
 use Rattle.monitor_run.specs.Opening.{Is}
 use Rattle.monitor_run.specs.Report.{start, watching}
-use Rattle.monitor_run.specs.Sources.{Says as SourcesSay, nothing_more, Opens, OpeningFails, FilesSay, FilesUnread, TextsUnread}
+use Rattle.monitor_run.specs.Sources.{Says as SourcesSay, nothing_more, Opens, OpeningFails}
+use Rattle.monitor_run.specs.Sources.{FilesSay, FilesUnread, TextsUnread}
 
--- how a job on the files of these names ended, which refuses so by itself and ends so by what they say
+-- how a job on the files of these names ended, which refuses so by itself and ends so by what they
+-- say
 abbrev pub FilesEnd : (Setting → Refusal → Type 0) → FileNames
     → (Setting → Ending Refusal → Ports → Ports → Type 0)
     → Ending Refusal → Outside → Outside → Type 0
@@ -69,7 +71,8 @@ AskedEnds (drill seed count) ending before now =
     (now.files ≡ before.files) × DrillEnds seed count ending before.ports now.ports
 
 -- the words mean this, and it was done
-pub record Performed (ending : Ending Refusal) (words : List (List ℕ)) (before now : Outside) : Type 0 where
+pub record Performed (ending : Ending Refusal) (words : List (List ℕ)) (before now : Outside) : Type
+    0 where
   pub means : Meaning
   pub words_mean : meaning_of_words words ≡ Some means
   pub ends : AskedEnds (asked_by means) ending before now
@@ -88,7 +91,8 @@ pub record Says (before now : SinkTold) (line : List ℕ) : Type 0 where
   pub whole : (wrote ≡ line) ⊎ Rose before.faults now.faults
 
 -- how a run ended, and what it said of it on the error sink
-pub record Ran (status : Status) (words : List (List ℕ)) (before now : Outside) (err_before err_now : SinkTold) : Type 0 where
+pub record Ran (status : Status) (words : List (List ℕ)) (before now : Outside)
+    (err_before err_now : SinkTold) : Type 0 where
   pub ending : Ending Refusal
   pub status_is : status ≡ status_of ending
   pub ends : RunEnds ending words before now

@@ -14,7 +14,8 @@ use Rattle.stream_report.specs.declared.ending.Ending.{Ending}
 use Rattle.stream_report.specs.declared.ending.Ending.TheVariants.{Refused, ReadFault, Memory}
 use Rattle.stream_report.specs.Outside.{FilesTold}
 use Rattle.monitor_run.specs.declared.ending.Refusal.{Refusal}
-use Rattle.monitor_run.specs.declared.ending.Refusal.TheVariants.{BadOntology, TooManyRewritings, BadQueries, NotALeaf}
+use Rattle.monitor_run.specs.declared.ending.Refusal.TheVariants.{BadOntology, TooManyRewritings}
+use Rattle.monitor_run.specs.declared.ending.Refusal.TheVariants.{BadQueries, NotALeaf}
 use Rattle.monitor_run.specs.Jobs.{FileNames}
 use Rattle.monitor_run.specs.Opening.{HasText, Is}
 use Rattle.monitor_run.specs.Reaching.{AreTooMany}
@@ -31,7 +32,8 @@ pub record Says (is_ontology is_queries : List ℕ → Type 0) (setting : Settin
   pub queries_say : SaysQueries setting.ontology queries setting.queries
 
 -- the ontology's text has this first fault
-pub record HasOntologyFault (is_ontology : List ℕ → Type 0) (line : ℕ) (kind : OntologyKind) : Type 0 where
+pub record HasOntologyFault (is_ontology : List ℕ
+    → Type 0) (line : ℕ) (kind : OntologyKind) : Type 0 where
   pub text : List ℕ
   pub is : is_ontology text
   pub fault : text_says text ≡ Err (line, kind)
@@ -43,7 +45,8 @@ pub record SaysOntology (is_ontology : List ℕ → Type 0) (ontology : Declared
   pub says : text_says text ≡ Ok ontology
 
 -- the ontology's text has no fault, and the queries' text has this first one
-pub record HasQueriesFault (is_ontology is_queries : List ℕ → Type 0) (line : ℕ) (kind : QueryKind) : Type 0 where
+pub record HasQueriesFault (is_ontology is_queries : List ℕ
+    → Type 0) (line : ℕ) (kind : QueryKind) : Type 0 where
   pub ontology : Declared
   pub says : SaysOntology is_ontology ontology
   pub text : List ℕ
@@ -53,7 +56,8 @@ pub record HasQueriesFault (is_ontology is_queries : List ℕ → Type 0) (line 
 -- the texts have a fault, and this is the first
 abbrev pub AreFaulty : (List ℕ → Type 0) → (List ℕ → Type 0) → Refusal → Type 0
 AreFaulty is_ontology is_queries (BadOntology line kind) = HasOntologyFault is_ontology line kind
-AreFaulty is_ontology is_queries (BadQueries line kind) = HasQueriesFault is_ontology is_queries line kind
+AreFaulty is_ontology is_queries (BadQueries line kind) =
+    HasQueriesFault is_ontology is_queries line kind
 AreFaulty is_ontology is_queries TooManyRewritings = ⊥
 AreFaulty is_ontology is_queries (NotALeaf name) = ⊥
 
@@ -77,7 +81,8 @@ IsRefused own setting _ = ⊥
 -- ---- the opening
 
 -- the sources say this, the job takes it, and it reaches no more queries than may be
-pub record Opens (own : Setting → Refusal → Type 0) (says : Setting → Type 0) (setting : Setting) : Type 0 where
+pub record Opens (own : Setting → Refusal → Type 0) (says : Setting
+    → Type 0) (setting : Setting) : Type 0 where
   pub say : says setting
   pub taken : IsTaken own setting
   pub few : ¬ AreTooMany setting

@@ -1,4 +1,5 @@
-// The top call.
+//! The top call.
+
 ghost use Rattle.std.specs.Prelude.{◌≡◌};
 ghost use Rattle.command_words.specs.Commands.{texts_of};
 ghost use Rattle.command_words.specs.Meanings.{IsWithinLimits, meaning_of};
@@ -155,9 +156,9 @@ fn say<E: Sink>(ending: Ending<Refusal>, err: &mut E)
 /// Runs the command that the words name: `watch ONTOLOGY QUERIES` reads the two files, watches
 /// `input` to its end and writes the report to `out`; `rewrite ONTOLOGY QUERIES` reads the two
 /// files and writes the rewritings of all leaves to `out`; `contain ONTOLOGY QUERIES` reads the two
-/// files and writes to `out` which queries are contained in which others; `drill SEED COUNT` makes an ontology,
-/// queries and a stream, watches it, and writes to `out` what its last snapshot tells and the end
-/// of the report. What a status means is told on `err`.
+/// files and writes to `out` which queries are contained in which others; `drill SEED COUNT` makes
+/// an ontology, queries and a stream, watches it, and writes to `out` what its last snapshot tells
+/// and the end of the report. What a status means is told on `err`.
 pub fn run<F: Files, S: Source, K: Sink, E: Sink>(
     alloc: Global,
     words: &[String],

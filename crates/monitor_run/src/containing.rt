@@ -1,4 +1,5 @@
-// The text that tells which queries are contained in which others.
+//! The text that tells which queries are contained in which others.
+
 ghost use Rattle.std.specs.Prelude.{◌≡◌, Some, IfOk, OnOk};
 ghost use Rattle.std.specs.List.{All};
 ghost use Rattle.dl_syntax.specs.declared.queries.Cq.{Cq as CqValue};

@@ -1,9 +1,11 @@
-// The command `contain`.
+//! The command `contain`.
+
 ghost use Rattle.std.specs.Prelude.{◌≡◌, None, IfOk, IfErr};
 ghost use Rattle.tcq_syntax.specs.Within.{AreWithin};
 ghost use Rattle.report_text.specs.Names.{AreSpelled};
 ghost use Rattle.stream_report.specs.Outside.{SourceTold, files_told, sink_told};
-ghost use Rattle.monitor_run.specs.Containments.{IsContainment, refuses_no_leaf, first_no_leaf as first_in};
+ghost use Rattle.monitor_run.specs.Containments.{IsContainment, refuses_no_leaf};
+ghost use Rattle.monitor_run.specs.Containments.{first_no_leaf as first_in};
 ghost use Rattle.monitor_run.specs.Jobs.{file_names};
 ghost use Rattle.monitor_run.specs.Reaching.{AreTooMany};
 ghost use Rattle.monitor_run.specs.Running.{JobEnds};

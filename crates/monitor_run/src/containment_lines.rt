@@ -1,4 +1,5 @@
-// The lines that tell containments.
+//! The lines that tell containments.
+
 ghost use Rattle.std.specs.Prelude.{◌≡◌, ◌++◌, OnOk, codes, flat_map};
 ghost use Rattle.dl_syntax.specs.Ontology.{names_of};
 ghost use Rattle.report_text.specs.Names.{name_text};

@@ -1,4 +1,5 @@
-// The command `drill`.
+//! The command `drill`.
+
 ghost use Rattle.std.specs.Prelude.{◌≤◌};
 ghost use Rattle.stream_report.specs.Outside.{SourceTold, sink_told};
 ghost use Rattle.monitor_run.specs.Running.{DrillEnds};

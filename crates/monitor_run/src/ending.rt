@@ -1,4 +1,5 @@
-// How a run ends.
+//! How a run ends.
+
 ghost use Rattle.std.specs.Prelude.{◌≡◌, ◌≤◌, length};
 ghost use Rattle.monitor_run.specs.Names.{name_in};
 

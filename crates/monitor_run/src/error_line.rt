@@ -1,4 +1,5 @@
-// The line on the error sink, made in an array, so that it takes no memory.
+//! The line on the error sink, made in an array, so that it takes no memory.
+
 ghost use Rattle.std.specs.Prelude.{◌≡◌, ◌++◌, ◌+◌, ◌≤◌, length};
 ghost use Rattle.arrayvec.specs.ArrayVec.{array_vec_len};
 ghost use Rattle.monitor_run.specs.Ends.{kind_text, query_kind_text, line_of};

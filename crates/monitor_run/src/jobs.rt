@@ -1,4 +1,5 @@
-// What is done with the files that the words name.
+//! What is done with the files that the words name.
+
 use crate::options::Options;
 
 /// The names of the files of a job.

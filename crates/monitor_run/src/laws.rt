@@ -64,8 +64,8 @@ pub fn cut_short()
     ensures { CutShort }
 {}
 
-/// The loop of a watch ends at the limit exactly where more was taken and the report of the complete
-/// lines was written, but for want of memory.
+/// The loop of a watch ends at the limit exactly where more was taken and the report of the
+/// complete lines was written, but for want of memory.
 pub fn limit_is_exact()
     ensures { LimitIsExact }
 {}

@@ -1,4 +1,5 @@
-// Which queries are leaves that name all their answer variables.
+//! Which queries are leaves that name all their answer variables.
+
 ghost use Rattle.std.specs.Prelude.{◌≡◌, option_map};
 ghost use Rattle.report_text.specs.Names.{AreSpelled};
 ghost use Rattle.tcq_syntax.specs.Tcq.{IsTcq};

@@ -1,4 +1,5 @@
-// The monitor of the files that the words name.
+//! The monitor of the files that the words name.
+
 ghost use Rattle.std.specs.Prelude.{◌≡◌, IfOk, IfErr};
 ghost use Rattle.tcq_syntax.specs.Within.{AreWithin};
 ghost use Rattle.monitor_core.specs.Standing.{Stands, setting_of, no_history};

@@ -1,4 +1,5 @@
-// How many queries the clashes of an ontology reach.
+//! How many queries the clashes of an ontology reach.
+
 ghost use Rattle.std.specs.Prelude.{◌≡◌, ◌≤◌, ◌∷◌, [], Err, IfOk, map};
 ghost use Rattle.dl_syntax.specs.Queries.{IsQuery};
 ghost use Rattle.query_unify.specs.Table.{role_atom as role_atom_of, basic_atom as basic_atom_of};

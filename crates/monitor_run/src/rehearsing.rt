@@ -1,4 +1,5 @@
-// What is told last of a stream.
+//! What is told last of a stream.
+
 ghost use Rattle.std.specs.Prelude.{◌≡◌, ◌++◌, ◌≤◌, ◌^◌, OnOk, length};
 ghost use Rattle.report_text.specs.Names.{AreSpelled};
 ghost use Rattle.monitor_core.specs.Standing.{setting_of, Stands, no_history};

@@ -1,4 +1,5 @@
-// The text of the rewritings of all leaves.
+//! The text of the rewritings of all leaves.
+
 ghost use Rattle.std.specs.Prelude.{◌≡◌, ◌≤◌, ◌∷◌, [], Err, IfOk, OnOk, ℕ};
 ghost use Rattle.dl_syntax.specs.declared.queries.Cq.{Cq as CqValue};
 ghost use Rattle.dl_syntax.specs.Queries.{IsQuery};

@@ -1,4 +1,5 @@
-// The command `rewrite`.
+//! The command `rewrite`.
+
 ghost use Rattle.std.specs.Prelude.{◌≡◌};
 ghost use Rattle.stream_report.specs.Outside.{SourceTold, files_told, sink_told};
 ghost use Rattle.monitor_run.specs.Jobs.{file_names};

@@ -1,4 +1,5 @@
-// The ontology and the queries of the files that the words name, whatever they say.
+//! The ontology and the queries of the files that the words name, whatever they say.
+
 ghost use Rattle.std.specs.Prelude.{◌≡◌, ◌≤◌, Ok, IfOk, IfErr, MatchResult};
 ghost use Rattle.edge_io.specs.Held.{IsFetched};
 ghost use Rattle.ontology_reader.specs.Texts.{text_says};

@@ -1,4 +1,5 @@
-// What is told of a line, gathered in a buffer.
+//! What is told of a line, gathered in a buffer.
+
 ghost use Rattle.std.specs.Prelude.{◌≡◌, ◌++◌, ◌∷◌, [], ◌≤◌, ℕ};
 ghost use Rattle.std.specs.Prelude.{List, Ok, Err, IfOk, OnOk, Some, length};
 ghost use Rattle.dl_syntax.specs.Ontology.{Declared};

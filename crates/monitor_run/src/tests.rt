@@ -1,3 +1,5 @@
+//! Tests of the public calls, and the worked examples.
+
 ghost use Rattle.std.specs.Prelude.{◌≤◌};
 
 mod answers;

@@ -1,4 +1,5 @@
-// The rewritings of queries that are leaves, each made once, and the clashes with theirs.
+//! The rewritings of queries that are leaves, each made once, and the clashes with theirs.
+
 ghost use Rattle.std.specs.Prelude.{◌≡◌, ◌≤◌, Err, IfOk};
 ghost use Rattle.std.specs.List.{All};
 ghost use Rattle.perfect_ref.specs.Plain.{encoded};

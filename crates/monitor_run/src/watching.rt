@@ -1,4 +1,5 @@
-// The command `watch`.
+//! The command `watch`.
+
 ghost use Rattle.std.specs.Prelude.{◌≡◌};
 ghost use Rattle.report_text.specs.Names.{AreSpelled};
 ghost use Rattle.monitor_core.specs.Standing.{setting_of, Stands, no_history};

@@ -1,5 +1,6 @@
 -- Each saying with a form has its spelling, and each spelling its saying.
-use Rattle.std.proofs.Common.{◌≡◌, ◌≢◌, ℕ, Bool, true, false, List, [], ◌∷◌, ◌++◌, Option, Some, None, refl, sym, ap, subst, ◌∙◌, append-nil}
+use Rattle.std.proofs.Common.{◌≡◌, ◌≢◌, ℕ, Bool, true, false, List, [], ◌∷◌, ◌++◌, Option, Some}
+use Rattle.std.proofs.Common.{None, refl, sym, ap, subst, ◌∙◌, append-nil}
 use Rattle.std.specs.Prelude.{IfSome, codes}
 use Rattle.std.specs.Option.{option_map, option_map_or}
 use Rattle.std.specs.Str.{bytes_eq}
@@ -8,8 +9,14 @@ use Rattle.std.proofs.lemmas.Slice.Eq.{bytes_eq-Decides}
 use Rattle.text_scan.specs.Lexing.{lexed}
 use Rattle.dl_syntax.specs.declared.names.Kind.{Kind}
 use Rattle.dl_syntax.specs.declared.names.Kind.TheVariants.{Concept, Role, Individual}
-use Rattle.ontology_reader.specs.Sayings.{Word, some, inv, name, RoleTerm, BasicTerm, concept, existing, Saying, nothing, declares, includes, includes_qualified, includes_roles, parts, parts_roles, has_no_form, role_first, basic_first, declaration, right_of, inclusion, last_two, pair_of, line_form, words_say, words_read, line_says}
-use Rattle.ontology_reader.specs.Spelling.{role_words, role_spelled, basic_spelled, kind_word, spelled}
+use Rattle.ontology_reader.specs.Sayings.{Word, some, inv, name, RoleTerm, BasicTerm, concept}
+use Rattle.ontology_reader.specs.Sayings.{existing, Saying, nothing, declares, includes}
+use Rattle.ontology_reader.specs.Sayings.{includes_qualified, includes_roles, disjoint}
+use Rattle.ontology_reader.specs.Sayings.{disjoint_roles, has_no_form, role_first, basic_first}
+use Rattle.ontology_reader.specs.Sayings.{declaration, right_of, inclusion, last_two, pair_of}
+use Rattle.ontology_reader.specs.Sayings.{line_form, words_say, words_read, line_says}
+use Rattle.ontology_reader.specs.Spelling.{role_words, role_spelled, basic_spelled, kind_word}
+use Rattle.ontology_reader.specs.Spelling.{spelled}
 use Rattle.ontology_reader.specs.Laws.{SpellingsSay, SayingsAreSpelled, LinesSaySpellings}
 
 -- ---- spellings are read
@@ -89,10 +96,10 @@ spellings_say (includes_qualified left r c) words is =
     said_by words _ (includes_qualified left r c) is (qualified left r c)
 spellings_say (includes_roles left right) words is =
     said_by words _ (includes_roles left right) is (roles_read includes_roles left right)
-spellings_say (parts left right) words is =
-    said_by words _ (parts left right) is (basics_read parts left right)
-spellings_say (parts_roles left right) words is =
-    said_by words _ (parts_roles left right) is (roles_read parts_roles left right)
+spellings_say (disjoint left right) words is =
+    said_by words _ (disjoint left right) is (basics_read disjoint left right)
+spellings_say (disjoint_roles left right) words is =
+    said_by words _ (disjoint_roles left right) is (roles_read disjoint_roles left right)
 spellings_say has_no_form words is = absurd cc
 
 -- ---- what is read is spelled
@@ -236,10 +243,10 @@ form_spelled word rest =
     (codes "subrole") rest _ (pair_with role_first role_spelled role_shape includes_roles
     (codes "subrole") (λ x y. refl) rest (role_first rest) (role_shape rest)))
     (λ _. cond_both (bytes_eq word (codes "disjoint")) _ _ P (same_word word
-    (codes "disjoint") rest _ (pair_with basic_first basic_spelled basic_shape parts
+    (codes "disjoint") rest _ (pair_with basic_first basic_spelled basic_shape disjoint
     (codes "disjoint") (λ x y. refl) rest (basic_first rest) (basic_shape rest)))
     (λ _. cond_both (bytes_eq word (codes "disjointrole")) _ _ P (same_word word
-    (codes "disjointrole") rest _ (pair_with role_first role_spelled role_shape parts_roles
+    (codes "disjointrole") rest _ (pair_with role_first role_spelled role_shape disjoint_roles
     (codes "disjointrole") (λ x y. refl) rest (role_first rest) (role_shape rest)))
     (λ _. no_form _)))))))
 
@@ -259,8 +266,8 @@ never_spelled (declares kind n) form is = cc
 never_spelled (includes left right) form is = cc
 never_spelled (includes_qualified left r c) form is = cc
 never_spelled (includes_roles left right) form is = cc
-never_spelled (parts left right) form is = cc
-never_spelled (parts_roles left right) form is = cc
+never_spelled (disjoint left right) form is = cc
+never_spelled (disjoint_roles left right) form is = cc
 never_spelled has_no_form form is = form refl
 
 read_says : (words : Option (List Word)) (saying : Saying) → saying ≢ has_no_form

@@ -1,5 +1,6 @@
 -- The bytes of words are read as these words.
-use Rattle.std.proofs.Common.{◌≡◌, ℕ, ◌+◌, Bool, true, false, List, [], ◌∷◌, ◌++◌, length, drop, Option, Some, refl, ap, ◌∙◌, arith, inl, inr}
+use Rattle.std.proofs.Common.{◌≡◌, ℕ, ◌+◌, Bool, true, false, List, [], ◌∷◌, ◌++◌, length, drop}
+use Rattle.std.proofs.Common.{Option, Some, refl, ap, ◌∙◌, arith, inl, inr}
 use Rattle.std.specs.Prelude.{IsTrue, nat_le, codes}
 use Rattle.std.specs.List.{All, prefix_len}
 use Rattle.std.specs.Option.{option_map, option_map_or}
@@ -12,7 +13,8 @@ use Rattle.text_scan.specs.declared.TokenKind.TheVariants.{Name}
 use Rattle.text_scan.specs.Lexing.{Lexeme, Lexed, lexed, with_first}
 use Rattle.text_scan.specs.Spelling.{IsName}
 use Rattle.text_scan.proofs.Lexing.{after_gap, after_word, at_end}
-use Rattle.ontology_reader.specs.Sayings.{Word, some, inv, name, word_of, words_say, words_read, line_says, has_no_form}
+use Rattle.ontology_reader.specs.Sayings.{Word, some, inv, name, word_of, words_say, words_read}
+use Rattle.ontology_reader.specs.Sayings.{line_says, has_no_form}
 use Rattle.ontology_reader.specs.Spelling.{spelled, word_text, behind_text, IsWritable}
 use Rattle.ontology_reader.specs.Laws.{WordsAreRead, SpelledLinesSay}
 use Rattle.ontology_reader.proofs.WordsRead.{first_word, words_end}

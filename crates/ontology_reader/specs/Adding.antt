@@ -1,5 +1,7 @@
--- What a line does to the ontology of the lines before it. The order of the faults is that of the tests.
-use Rattle.std.specs.Prelude.{ℕ, Bool, ◌||◌, nat_lt, if◌then◌else◌, List, length, position, Option, Some, None, is_some, Result, Ok, Err}
+-- What a line does to the ontology of the lines before it. The order of the faults is that of the
+-- tests.
+use Rattle.std.specs.Prelude.{ℕ, Bool, ◌||◌, nat_lt, if◌then◌else◌, List, length, position, Option}
+use Rattle.std.specs.Prelude.{Some, None, is_some, Result, Ok, Err}
 use Rattle.std.specs.Str.{bytes_eq}
 use Rattle.dl_syntax.specs.declared.names.Kind.{Kind}
 use Rattle.dl_syntax.specs.declared.names.Kind.TheVariants.{Concept, Role, Individual}
@@ -10,13 +12,19 @@ use Rattle.dl_syntax.specs.declared.ontology.Inclusion.{Inclusion}
 use Rattle.dl_syntax.specs.declared.ontology.Inclusion.TheVariants as inclusion
 use Rattle.dl_syntax.specs.declared.ontology.Clash.{Clash}
 use Rattle.dl_syntax.specs.declared.ontology.Clash.TheVariants as clash
-use Rattle.dl_syntax.specs.Ontology.{Declared, names_of, number_of, is_declared, with_name, with_inclusion, with_clash, most_names, most_inclusions, most_clashes}
+use Rattle.dl_syntax.specs.Ontology.{Declared, names_of, number_of, is_declared, with_name}
+use Rattle.dl_syntax.specs.Ontology.{with_inclusion, with_clash, most_names, most_inclusions}
+use Rattle.dl_syntax.specs.Ontology.{most_clashes}
 use Rattle.ontology_reader.specs.declared.OntologyKind.{OntologyKind}
-use Rattle.ontology_reader.specs.declared.OntologyKind.TheVariants.{BadLine, NameTwice, Unknown, WrongKind, TooMany}
-use Rattle.ontology_reader.specs.Sayings.{RoleTerm, BasicTerm, concept, existing, Saying, nothing, declares, includes, includes_qualified, includes_roles, parts, parts_roles, has_no_form, line_says}
+use Rattle.ontology_reader.specs.declared.OntologyKind.TheVariants.{BadLine, NameTwice, Unknown}
+use Rattle.ontology_reader.specs.declared.OntologyKind.TheVariants.{WrongKind, TooMany}
+use Rattle.ontology_reader.specs.Sayings.{RoleTerm, BasicTerm, concept, existing, Saying, nothing}
+use Rattle.ontology_reader.specs.Sayings.{declares, includes, includes_qualified, includes_roles}
+use Rattle.ontology_reader.specs.Sayings.{disjoint, disjoint_roles, has_no_form, line_says}
 
 infixl 10 ◌>>=◌
-abbrev pub ◌>>=◌ : {A B : Type 0} → Result A OntologyKind → (A → Result B OntologyKind) → Result B OntologyKind
+abbrev pub ◌>>=◌ : {A B : Type 0} → Result A OntologyKind → (A → Result B OntologyKind)
+    → Result B OntologyKind
 (Ok x) >>= f = f x
 (Err e) >>= f = Err e
 
@@ -53,8 +61,8 @@ basic_of o (existing r) = do
 abbrev pub included : Declared → Inclusion → Result Declared OntologyKind
 included o i = if_fewer (length o.inclusions) most_inclusions (with_inclusion i o)
 
-abbrev pub parted : Declared → Clash → Result Declared OntologyKind
-parted o m = if_fewer (length o.clashes) most_clashes (with_clash m o)
+abbrev pub with_disjointness : Declared → Clash → Result Declared OntologyKind
+with_disjointness o m = if_fewer (length o.clashes) most_clashes (with_clash m o)
 
 unfoldable pub added : Declared → Saying → Result Declared OntologyKind
 added o nothing = Ok o
@@ -72,14 +80,14 @@ added o (includes_roles left right) = do
   r ← role_of o left
   s ← role_of o right
   included o (inclusion.Roles r s)
-added o (parts left right) = do
+added o (disjoint left right) = do
   b ← basic_of o left
   c ← basic_of o right
-  parted o (clash.Concepts b c)
-added o (parts_roles left right) = do
+  with_disjointness o (clash.Concepts b c)
+added o (disjoint_roles left right) = do
   r ← role_of o left
   s ← role_of o right
-  parted o (clash.Roles r s)
+  with_disjointness o (clash.Roles r s)
 added o has_no_form = Err BadLine
 
 unfoldable pub line_added : Declared → List ℕ → Result Declared OntologyKind

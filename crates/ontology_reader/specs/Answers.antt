@@ -1,4 +1,4 @@
--- How the answers of the parts of a reader tell what a line does.
+-- How the answers of the disjoint of a reader tell what a line does.
 use Rattle.std.specs.Prelude.{◌≡◌, Result, Ok, Err}
 use Rattle.dl_syntax.specs.Names.{IsDeclarable}
 use Rattle.dl_syntax.specs.Ontology.{Declared}

@@ -2,7 +2,8 @@
 use Rattle.std.specs.Prelude.{◌≡◌, ◌≢◌, ◌↔◌, ℕ, List, Some}
 use Rattle.std.specs.List.{All}
 use Rattle.text_scan.specs.Lexing.{lexed}
-use Rattle.ontology_reader.specs.Sayings.{Word, Saying, has_no_form, words_say, words_read, line_says}
+use Rattle.ontology_reader.specs.Sayings.{Word, Saying, has_no_form, words_say, words_read}
+use Rattle.ontology_reader.specs.Sayings.{line_says}
 use Rattle.ontology_reader.specs.Spelling.{spelled, words_text, IsWritable}
 
 -- the words that spell a saying say it

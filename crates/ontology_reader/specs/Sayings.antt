@@ -1,5 +1,6 @@
 -- What a line of an ontology says.
-use Rattle.std.specs.Prelude.{ℕ, Bool, true, false, ◌∷◌, [], List, Option, Some, None, codes, if◌then◌else◌}
+use Rattle.std.specs.Prelude.{ℕ, Bool, true, false, ◌∷◌, [], List, Option, Some, None, codes}
+use Rattle.std.specs.Prelude.{if◌then◌else◌}
 use Rattle.std.specs.Option.{option_map, option_map_or}
 use Rattle.std.specs.Str.{bytes_eq}
 use Rattle.text_scan.specs.declared.TokenKind.{TokenKind}
@@ -15,7 +16,8 @@ pub data Word : Type 0 where
   name : List ℕ → Word
 
 abbrev pub word_of : List ℕ → Word
-word_of text = if bytes_eq text (codes "some") then some else if bytes_eq text (codes "inv") then inv else name text
+word_of text = if bytes_eq text (codes "some") then some else if bytes_eq text (codes "inv")
+    then inv else name text
 
 -- a role or its inverse, by the role's name
 pub record RoleTerm : Type 0 where
@@ -33,8 +35,8 @@ pub data Saying : Type 0 where
   includes : BasicTerm → BasicTerm → Saying
   includes_qualified : BasicTerm → RoleTerm → List ℕ → Saying
   includes_roles : RoleTerm → RoleTerm → Saying
-  parts : BasicTerm → BasicTerm → Saying
-  parts_roles : RoleTerm → RoleTerm → Saying
+  disjoint : BasicTerm → BasicTerm → Saying
+  disjoint_roles : RoleTerm → RoleTerm → Saying
   has_no_form : Saying
 
 -- ---- what the words begin with, and the words behind it
@@ -62,15 +64,18 @@ right_of left (existing r, name c ∷ []) = includes_qualified left r c
 right_of left _ = has_no_form
 
 abbrev pub inclusion : List Word → Saying
-inclusion rest = option_map_or (λ left. option_map_or (right_of left.0) (basic_first left.1) has_no_form) (basic_first rest) has_no_form
+inclusion rest = option_map_or (λ left.
+    option_map_or (right_of left.0) (basic_first left.1) has_no_form) (basic_first rest) has_no_form
 
 -- two terms with nothing behind them
 abbrev pub last_two : {X : Type 0} → (X → X → Saying) → X → X × List Word → Saying
 last_two says left (right, []) = says left right
 last_two says left _ = has_no_form
 
-abbrev pub pair_of : {X : Type 0} → (List Word → Option (X × List Word)) → (X → X → Saying) → List Word → Saying
-pair_of first says rest = option_map_or (λ left. option_map_or (last_two says left.0) (first left.1) has_no_form) (first rest) has_no_form
+abbrev pub pair_of : {X : Type 0} → (List Word → Option (X × List Word)) → (X → X → Saying)
+    → List Word → Saying
+pair_of first says rest = option_map_or (λ left.
+    option_map_or (last_two says left.0) (first left.1) has_no_form) (first rest) has_no_form
 
 -- by its first word
 abbrev pub line_form : List ℕ → List Word → Saying
@@ -80,8 +85,8 @@ line_form word rest =
     else if bytes_eq word (codes "individual") then declaration Individual rest
     else if bytes_eq word (codes "sub") then inclusion rest
     else if bytes_eq word (codes "subrole") then pair_of role_first includes_roles rest
-    else if bytes_eq word (codes "disjoint") then pair_of basic_first parts rest
-    else if bytes_eq word (codes "disjointrole") then pair_of role_first parts_roles rest
+    else if bytes_eq word (codes "disjoint") then pair_of basic_first disjoint rest
+    else if bytes_eq word (codes "disjointrole") then pair_of role_first disjoint_roles rest
     else has_no_form
 
 unfoldable pub words_say : List Word → Saying
@@ -98,7 +103,8 @@ is_name_kind _ = false
 -- the words of a line whose tokens are names
 unfoldable pub words_of : List Lexeme → Option (List Word)
 words_of [] = Some []
-words_of (l ∷ ls) = if is_name_kind l.kind then option_map (λ rest. word_of l.text ∷ rest) (words_of ls) else None
+words_of (l ∷ ls) = if is_name_kind l.kind then option_map (λ rest.
+    word_of l.text ∷ rest) (words_of ls) else None
 
 -- a line with a byte at fault has no words
 abbrev pub words_read : Lexed → Option (List Word)

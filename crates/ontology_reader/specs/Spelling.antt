@@ -3,7 +3,10 @@ use Rattle.std.specs.Prelude.{ℕ, Bool, true, false, List, [], ◌∷◌, ◌++
 use Rattle.dl_syntax.specs.declared.names.Kind.{Kind}
 use Rattle.dl_syntax.specs.declared.names.Kind.TheVariants.{Concept, Role, Individual}
 use Rattle.dl_syntax.specs.Names.{IsDeclarable}
-use Rattle.ontology_reader.specs.Sayings.{Word, some, inv, name, RoleTerm, BasicTerm, concept, existing, Saying, nothing, declares, includes, includes_qualified, includes_roles, parts, parts_roles, has_no_form}
+use Rattle.ontology_reader.specs.Sayings.{Word, some, inv, name, RoleTerm, BasicTerm, concept}
+use Rattle.ontology_reader.specs.Sayings.{existing, Saying, nothing, declares, includes}
+use Rattle.ontology_reader.specs.Sayings.{includes_qualified, includes_roles, disjoint}
+use Rattle.ontology_reader.specs.Sayings.{disjoint_roles, has_no_form}
 
 -- the words of a role, or of its inverse
 abbrev pub role_words : Bool → List ℕ → List Word
@@ -33,9 +36,9 @@ spelled (includes_qualified left r c) =
     Some (name (codes "sub") ∷ (basic_spelled left ++ (some ∷ (role_spelled r ++ name c ∷ []))))
 spelled (includes_roles left right) =
     Some (name (codes "subrole") ∷ (role_spelled left ++ role_spelled right))
-spelled (parts left right) =
+spelled (disjoint left right) =
     Some (name (codes "disjoint") ∷ (basic_spelled left ++ basic_spelled right))
-spelled (parts_roles left right) =
+spelled (disjoint_roles left right) =
     Some (name (codes "disjointrole") ∷ (role_spelled left ++ role_spelled right))
 spelled has_no_form = None
 

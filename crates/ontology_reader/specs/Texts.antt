@@ -1,5 +1,6 @@
 -- What a text declares and states, or its first fault.
-use Rattle.std.specs.Prelude.{◌≡◌, ℕ, ◌+◌, nat_lt, if◌then◌else◌, List, [], ◌∷◌, length, Result, Ok, Err}
+use Rattle.std.specs.Prelude.{◌≡◌, ℕ, ◌+◌, nat_lt, if◌then◌else◌, List, [], ◌∷◌, length, Result, Ok}
+use Rattle.std.specs.Prelude.{Err}
 use Rattle.text_scan.specs.Lines.{lines_of}
 use Rattle.dl_syntax.specs.Ontology.{Declared, nothing_declared}
 use Rattle.ontology_reader.specs.declared.OntologyKind.{OntologyKind}
@@ -26,7 +27,8 @@ most_bytes = 4194304
 
 -- a text that is too long is at fault at line 0
 unfoldable pub text_says : List ℕ → Result Declared FaultAt
-text_says text = if nat_lt most_bytes (length text) then Err (0, TooLong) else lines_added 0 nothing_declared (lines_of text)
+text_says text = if nat_lt most_bytes (length text) then Err (0, TooLong) else lines_added 0
+    nothing_declared (lines_of text)
 
 -- the answer is what is said, unless memory ran out
 abbrev pub Tells : Result Declared OntologyFault → Result Declared FaultAt → Type 0

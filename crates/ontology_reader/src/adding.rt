@@ -1,8 +1,12 @@
+//! What a line adds to an ontology.
+
 ghost use Rattle.std.specs.Prelude.{◌≡◌, ◌<◌, length, IfOk};
 ghost use Rattle.dl_syntax.specs.Names.{IsDeclarable};
-ghost use Rattle.dl_syntax.specs.Declaring.{IsDeclaredRole, IsDeclaredBasic, IsDeclaredInclusion, IsDeclaredClash};
+ghost use Rattle.dl_syntax.specs.Declaring.{IsDeclaredRole, IsDeclaredBasic, IsDeclaredInclusion};
+ghost use Rattle.dl_syntax.specs.Declaring.{IsDeclaredClash};
 ghost use Rattle.dl_syntax.specs.Ontology.{names_of};
-ghost use Rattle.ontology_reader.specs.Adding.{resolved, role_of, basic_of, declared, included, parted, added};
+ghost use Rattle.ontology_reader.specs.Adding.{resolved, role_of, basic_of, declared, included};
+ghost use Rattle.ontology_reader.specs.Adding.{with_disjointness, added};
 ghost use Rattle.ontology_reader.specs.Answers.{Gives, Changes, IsDeclarableSaying};
 ghost use Rattle.ontology_reader.specs.Views.{role_seen, basic_seen, saying_seen};
 
@@ -94,7 +98,7 @@ fn include(ontology: &mut Ontology, inclusion: Inclusion) -> Result<(), LineFaul
 /// Adds a clash of declared names.
 fn part(ontology: &mut Ontology, clash: Clash) -> Result<(), LineFault>
     requires { IsDeclaredClash (length ontology.old.concepts) (length ontology.old.roles) clash }
-    ensures { Changes result (parted ontology.old clash) ontology.new }
+    ensures { Changes result (with_disjointness ontology.old clash) ontology.new }
 {
     let _ = ontology.clashes();
     match ontology.add_clash(clash) {
@@ -132,12 +136,12 @@ pub fn add(ontology: &mut Ontology, saying: &Saying<'_>) -> Result<(), LineFault
             let right = role_of(ontology, right)?;
             include(ontology, Inclusion::Roles(left, right))
         }
-        Saying::Parts(left, right) => {
+        Saying::Disjoint(left, right) => {
             let left = basic_of(ontology, left)?;
             let right = basic_of(ontology, right)?;
             part(ontology, Clash::Concepts(left, right))
         }
-        Saying::PartsRoles(left, right) => {
+        Saying::DisjointRoles(left, right) => {
             let left = role_of(ontology, left)?;
             let right = role_of(ontology, right)?;
             part(ontology, Clash::Roles(left, right))

@@ -1,6 +1,12 @@
+//! What a line says.
+
 ghost use Rattle.std.specs.Prelude.{◌≡◌, map};
 ghost use Rattle.std.specs.Option.{option_map, option_map_or};
-ghost use Rattle.ontology_reader.specs.Sayings.{RoleTerm as RoleTermSeen, Saying as SayingSeen, role_first, basic_first, declaration, right_of, inclusion, pair_of, line_form, words_say, includes_roles, parts, parts_roles, has_no_form};
+ghost use Rattle.ontology_reader.specs.Sayings.{RoleTerm as RoleTermSeen, Saying as SayingSeen};
+ghost use Rattle.ontology_reader.specs.Sayings.{role_first, basic_first, declaration, right_of};
+ghost use Rattle.ontology_reader.specs.Sayings.{inclusion, pair_of, line_form, words_say};
+ghost use Rattle.ontology_reader.specs.Sayings.{includes_roles, disjoint, disjoint_roles};
+ghost use Rattle.ontology_reader.specs.Sayings.{has_no_form};
 ghost use Rattle.ontology_reader.specs.Views.{word_seen, role_seen, basic_seen, saying_seen};
 
 use crate::words::Word;
@@ -28,8 +34,8 @@ pub enum Saying<'a> {
     Includes(BasicTerm<'a>, BasicTerm<'a>),
     IncludesQualified(BasicTerm<'a>, RoleTerm<'a>, &'a [u8]),
     IncludesRoles(RoleTerm<'a>, RoleTerm<'a>),
-    Parts(BasicTerm<'a>, BasicTerm<'a>),
-    PartsRoles(RoleTerm<'a>, RoleTerm<'a>),
+    Disjoint(BasicTerm<'a>, BasicTerm<'a>),
+    DisjointRoles(RoleTerm<'a>, RoleTerm<'a>),
     HasNoForm,
 }
 
@@ -111,8 +117,8 @@ fn inclusion<'a>(words: &[Word<'a>]) -> Saying<'a>
 
 /// Two basic concepts with nothing behind them.
 fn two_basics<'a>(words: &[Word<'a>]) -> Option<(BasicTerm<'a>, BasicTerm<'a>)>
-    ensures { option_map_or (λ found. parts (basic_seen found.0) (basic_seen found.1)) result
-        has_no_form ≡ pair_of basic_first parts (map word_seen words.now) }
+    ensures { option_map_or (λ found. disjoint (basic_seen found.0) (basic_seen found.1)) result
+        has_no_form ≡ pair_of basic_first disjoint (map word_seen words.now) }
 {
     let (left, rest) = basic_first(words)?;
     match basic_first(rest)? {
@@ -154,12 +160,12 @@ fn line_form<'a>(word: &'a [u8], rest: &[Word<'a>]) -> Saying<'a>
     } else if word == b"disjoint".as_slice() {
         two_basics(rest).map_or(
             Saying::HasNoForm,
-            |(left, right)| Saying::Parts(left, right),
+            |(left, right)| Saying::Disjoint(left, right),
         )
     } else if word == b"disjointrole".as_slice() {
         two_roles(rest).map_or(
             Saying::HasNoForm,
-            |(left, right)| Saying::PartsRoles(left, right),
+            |(left, right)| Saying::DisjointRoles(left, right),
         )
     } else {
         Saying::HasNoForm

@@ -1,3 +1,5 @@
+//! Tests of the public calls, and the worked examples.
+
 use crate::{OntologyFault, OntologyKind, read_ontology};
 use dl_syntax::{Basic, Clash, ConceptId, Inclusion, Kind, Role, RoleId};
 use std::test::Fail;

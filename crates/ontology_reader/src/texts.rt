@@ -1,3 +1,5 @@
+//! The ontology of a whole text.
+
 ghost use Rattle.std.specs.Prelude.{◌≡◌, IfOk};
 ghost use Rattle.text_scan.specs.Lines.{lines_of};
 ghost use Rattle.dl_syntax.specs.Ontology.{nothing_declared};

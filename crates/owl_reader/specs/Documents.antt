@@ -1,10 +1,12 @@
 -- Documents, as they are written.
-use Rattle.std.specs.Prelude.{◌≡◌, ℕ, ◌+◌, ◌==◌, ◌&&◌, not, Bool, true, false, if◌then◌else◌, List, [], ◌∷◌, length, codes, Option, Some, None, Result, Ok, Err}
+use Rattle.std.specs.Prelude.{◌≡◌, ℕ, ◌+◌, ◌==◌, ◌&&◌, not, Bool, true, false, if◌then◌else◌, List}
+use Rattle.std.specs.Prelude.{[], ◌∷◌, length, codes, Option, Some, None, Result, Ok, Err}
 use Rattle.std.specs.List.{prefix_len}
 use Rattle.std.specs.Str.{bytes_eq}
 use Rattle.owl_reader.specs.Tokens.{Lexeme}
 use Rattle.owl_reader.specs.Tables.{Table}
-use Rattle.owl_reader.specs.Iris.{is_iri, is_no_colon, prefix_of, between_brackets, own_prefixes, with_prefixes}
+use Rattle.owl_reader.specs.Iris.{is_iri, is_no_colon, prefix_of, between_brackets, own_prefixes}
+use Rattle.owl_reader.specs.Iris.{with_prefixes}
 use Rattle.owl_reader.specs.Terms.{Read, ◌>>=◌, is_equal, is_word, open_first, close_first}
 use Rattle.owl_reader.specs.Items.{many, up_to_close, Item, item_first}
 
@@ -32,7 +34,8 @@ equal_first (t ∷ rest) = if is_equal t.kind then Ok rest else Err (Some t.star
 
 abbrev pub iri_first : List Lexeme → Read (List ℕ × List Lexeme)
 iri_first [] = Err None
-iri_first (t ∷ rest) = if is_iri t.kind then Ok (between_brackets t.text, rest) else Err (Some t.start)
+iri_first (t ∷ rest) = if is_iri t.kind then Ok (between_brackets t.text, rest) else Err
+    (Some t.start)
 
 -- `Prefix(p:=<iri>)`
 unfoldable pub prefix_first : List Lexeme → Read ((List ℕ × List ℕ) × List Lexeme)

@@ -1,5 +1,6 @@
 -- Prefixes, the IRIs that entities stand for, and their names.
-use Rattle.std.specs.Prelude.{ℕ, ◌+◌, ◌-◌, ◌==◌, ◌||◌, not, Bool, true, false, if◌then◌else◌, List, [], ◌∷◌, ◌++◌, length, take, drop, codes, Option, Some, None}
+use Rattle.std.specs.Prelude.{ℕ, ◌+◌, ◌-◌, ◌==◌, ◌||◌, not, Bool, true, false, if◌then◌else◌, List}
+use Rattle.std.specs.Prelude.{[], ◌∷◌, ◌++◌, length, take, drop, codes, Option, Some, None}
 use Rattle.std.specs.List.{prefix_len}
 use Rattle.std.specs.Option.{option_map, option_map_or}
 use Rattle.std.specs.Str.{bytes_eq}
@@ -42,14 +43,18 @@ xsd_iri = codes "http://www.w3.org/2001/XMLSchema#"
 
 -- the prefixes that are known by themselves
 abbrev pub is_own_prefix : List ℕ → Bool
-is_own_prefix name = bytes_eq name (codes "owl") || (bytes_eq name (codes "rdf") || (bytes_eq name (codes "rdfs") || bytes_eq name (codes "xsd")))
+is_own_prefix name = bytes_eq name (codes "owl") ||
+    (bytes_eq name (codes "rdf") || (bytes_eq name (codes "rdfs") || bytes_eq name (codes "xsd")))
 
 abbrev pub own_prefixes : Table
-own_prefixes = put (codes "xsd") xsd_iri (put (codes "rdfs") rdfs_iri (put (codes "rdf") rdf_iri (put (codes "owl") owl_iri [])))
+own_prefixes = put (codes "xsd") xsd_iri
+    (put (codes "rdfs") rdfs_iri (put (codes "rdf") rdf_iri (put (codes "owl") owl_iri [])))
 
--- a declaration takes the place of an earlier one; one of a prefix that is known by itself changes nothing
+-- a declaration takes the place of an earlier one; one of a prefix that is known by itself changes
+-- nothing
 abbrev pub with_prefix : Table → List ℕ × List ℕ → Table
-with_prefix known declared = if is_own_prefix declared.0 then known else put declared.0 declared.1 known
+with_prefix known declared =
+    if is_own_prefix declared.0 then known else put declared.0 declared.1 known
 
 -- the prefixes after these declarations
 unfoldable pub with_prefixes : Table → List (List ℕ × List ℕ) → Table
@@ -60,7 +65,8 @@ with_prefixes known (declared ∷ rest) = with_prefixes (with_prefix known decla
 
 -- the IRI that an entity stands for; none where its prefix isn't known
 abbrev pub expanded : Table → Lexeme → Option (List ℕ)
-expanded known t = if is_iri t.kind then Some (between_brackets t.text) else option_map (λ iri. iri ++ local_of t.text) (looked_up (prefix_of t.text) known)
+expanded known t = if is_iri t.kind then Some (between_brackets t.text) else option_map (λ iri.
+    iri ++ local_of t.text) (looked_up (prefix_of t.text) known)
 
 unfoldable pub thing : List ℕ
 thing = codes "http://www.w3.org/2002/07/owl#Thing"
@@ -79,4 +85,5 @@ behind_cut part (b ∷ rest) = behind_cut (if is_cut b then rest else part) rest
 
 -- the name of an entity
 abbrev pub name_of : Lexeme → List ℕ
-name_of t = if is_iri t.kind then behind_cut (between_brackets t.text) (between_brackets t.text) else local_of t.text
+name_of t = if is_iri t.kind then behind_cut (between_brackets t.text) (between_brackets t.text)
+    else local_of t.text

@@ -8,14 +8,21 @@ use Rattle.owl_reader.specs.declared.items.Item as items
 use Rattle.owl_reader.specs.declared.items.Item.TheVariants as item_of
 use Rattle.owl_reader.specs.Tokens.{lexeme}
 use Rattle.owl_reader.specs.Views.{entity_seen, role_seen, class_seen}
-use Rattle.owl_reader.specs.Items.{Content, Axiom, Declaration, of_entity, of_annotations, of_refused, Item, silent, not_taken, declares, states}
+use Rattle.owl_reader.specs.Items.{Content, Axiom, Declaration, of_entity, of_annotations}
+use Rattle.owl_reader.specs.Items.{of_refused, Item, silent, not_taken, declares, states}
 
 module _ (bytes : List ℕ) where
   abbrev pub content_seen : contents.Content → Content
   content_seen c = (map (role_seen bytes) c.roles.items, map (class_seen bytes) c.classes.items)
 
   abbrev pub axiom_seen : axioms.Axiom → Axiom
-  axiom_seen a = record { form = a.form; roles = map (role_seen bytes) a.roles.items; classes = map (class_seen bytes) a.classes.items; close = a.close }
+  axiom_seen a = record {
+    form = a.form;
+    roles = map (role_seen bytes) a.roles.items;
+    classes =
+        map (class_seen bytes) a.classes.items;
+    close = a.close;
+  }
 
   abbrev pub declaration_seen : declarations.Declaration → Declaration
   declaration_seen (declaration_of.OfEntity kind e) = of_entity kind (entity_seen bytes e)

@@ -1,5 +1,6 @@
 -- The items of a document, as they are written.
-use Rattle.std.specs.Prelude.{ℕ, zero, suc, nat_lt, ◌&&◌, Bool, true, false, if◌then◌else◌, List, [], ◌∷◌, length, Option, Some, None, Result, Ok, Err}
+use Rattle.std.specs.Prelude.{ℕ, zero, suc, nat_lt, ◌&&◌, Bool, true, false, if◌then◌else◌, List}
+use Rattle.std.specs.Prelude.{[], ◌∷◌, length, Option, Some, None, Result, Ok, Err}
 use Rattle.dl_syntax.specs.declared.names.Kind.{Kind}
 use Rattle.dl_syntax.specs.declared.names.Kind.TheVariants as as_kind
 use Rattle.owl_reader.specs.declared.words.Head.{Head}
@@ -12,21 +13,29 @@ use Rattle.owl_reader.specs.Tokens.{Lexeme}
 use Rattle.owl_reader.specs.Tables.{Table}
 use Rattle.owl_reader.specs.Iris.{is_thing}
 use Rattle.owl_reader.specs.Words.{head_of}
-use Rattle.owl_reader.specs.Terms.{Read, ◌>>=◌, stops_at, is_close, is_word, open_first, close_first, group_of, group_end, First, entity, group, term_first, refused_end, Entity, Role, Class, entity_first, role_first, class_first, basic_first}
+use Rattle.owl_reader.specs.Terms.{Read, ◌>>=◌, stops_at, is_close, is_word, open_first}
+use Rattle.owl_reader.specs.Terms.{close_first, group_of, group_end, First, entity, group}
+use Rattle.owl_reader.specs.Terms.{term_first, refused_end, Entity, Role, Class, entity_first}
+use Rattle.owl_reader.specs.Terms.{role_first, class_first, basic_first}
 
 -- ---- one after the other
 
--- what is read one after the other up to the tokens that end it; so many are no more than the tokens
-unfoldable pub many : {X : Type 0} → (List Lexeme → Bool) → (List Lexeme → Read (X × List Lexeme)) → ℕ → List Lexeme → Read (List X × List Lexeme)
+-- what is read one after the other up to the tokens that end it; so many are no more than the
+-- tokens
+unfoldable pub many : {X : Type 0} → (List Lexeme → Bool) → (List Lexeme → Read (X × List Lexeme))
+    → ℕ → List Lexeme → Read (List X × List Lexeme)
 many ends one zero tokens = Err None
-many ends one (suc most) tokens = if ends tokens then Ok ([], tokens) else (one tokens >>= (λ first. many ends one most first.1 >>= (λ later. Ok (first.0 ∷ later.0, later.1))))
+many ends one (suc most) tokens =
+    if ends tokens then Ok ([], tokens) else (one tokens >>= (λ first.
+    many ends one most first.1 >>= (λ later. Ok (first.0 ∷ later.0, later.1))))
 
 abbrev pub closes : List Lexeme → Bool
 closes [] = false
 closes (t ∷ rest) = is_close t.kind
 
 -- all up to a closing parenthesis
-abbrev pub up_to_close : {X : Type 0} → (List Lexeme → Read (X × List Lexeme)) → List Lexeme → Read (List X × List Lexeme)
+abbrev pub up_to_close : {X : Type 0} → (List Lexeme → Read (X × List Lexeme)) → List Lexeme
+    → Read (List X × List Lexeme)
 up_to_close one tokens = many closes one (length tokens) tokens
 
 -- a closing parenthesis behind fewer than two is at fault
@@ -42,16 +51,19 @@ is_annotation _ = false
 -- the tokens behind `Annotation(`
 abbrev pub annotation_first : List Lexeme → Option (List Lexeme)
 annotation_first [] = None
-annotation_first (t ∷ rest) = if is_word t.kind && is_annotation (head_of t.text) then group_of rest else None
+annotation_first (t ∷ rest) =
+    if is_word t.kind && is_annotation (head_of t.text) then group_of rest else None
 
-abbrev pub behind_annotation : Option (List Lexeme) → List Lexeme → (List Lexeme → Read (List Lexeme)) → Read (List Lexeme)
+abbrev pub behind_annotation : Option (List Lexeme) → List Lexeme
+    → (List Lexeme → Read (List Lexeme)) → Read (List Lexeme)
 behind_annotation None tokens more = Ok tokens
 behind_annotation (Some inside) tokens more = group_end 0 inside >>= more
 
 -- the tokens behind the annotations, of which there are no more than so many
 unfoldable pub annotations_end : ℕ → List Lexeme → Read (List Lexeme)
 annotations_end zero tokens = Ok tokens
-annotations_end (suc most) tokens = behind_annotation (annotation_first tokens) tokens (λ rest. annotations_end most rest)
+annotations_end (suc most) tokens =
+    behind_annotation (annotation_first tokens) tokens (λ rest. annotations_end most rest)
 
 -- the tokens behind the annotations that they begin with
 abbrev pub behind_annotations : List Lexeme → Read (List Lexeme)
@@ -152,10 +164,13 @@ refused_declared known word t inside = do
   Ok (of_refused t, rest)
 
 abbrev pub declaration_from : Table → First → Read (Declaration × List Lexeme)
-declaration_from known (entity t rest) = if is_thing known t then Ok (of_refused t, rest) else Err (Some t.start)
+declaration_from known (entity t rest) =
+    if is_thing known t then Ok (of_refused t, rest) else Err (Some t.start)
 declaration_from known (group head.Class t inside) = entity_declared known as_kind.Concept inside
-declaration_from known (group head.ObjectProperty t inside) = entity_declared known as_kind.Role inside
-declaration_from known (group head.NamedIndividual t inside) = entity_declared known as_kind.Individual inside
+declaration_from known (group head.ObjectProperty t inside) =
+    entity_declared known as_kind.Role inside
+declaration_from known (group head.NamedIndividual t inside) =
+    entity_declared known as_kind.Individual inside
 declaration_from known (group head.AnnotationProperty t inside) = annotations_declared inside
 declaration_from known (group word t inside) = refused_declared known word t inside
 
@@ -174,7 +189,16 @@ axiom_item known word shape inside = do
   tokens ← behind_annotations inside
   content ← content_first known shape tokens
   end ← close_first content.1
-  Ok (states (record { form = word; roles = content.0.0; classes = content.0.1; close = end.0 }), end.1)
+  Ok (
+    states (record {
+      form = word;
+      roles = content.0.0;
+      classes = content.0.1;
+      close =
+          end.0;
+    }),
+    end.1,
+  )
 
 abbrev pub silent_item : List Lexeme → Read (Item × List Lexeme)
 silent_item inside = do
@@ -224,4 +248,5 @@ worded_item known t rest = do
 -- the item that the tokens begin with
 unfoldable pub item_first : Table → List Lexeme → Read (Item × List Lexeme)
 item_first known [] = Err None
-item_first known (t ∷ rest) = if is_word t.kind then worded_item known t rest else Err (Some t.start)
+item_first known (t ∷ rest) =
+    if is_word t.kind then worded_item known t rest else Err (Some t.start)

@@ -1,5 +1,6 @@
 -- The ontology that a document stands for, or its first fault.
-use Rattle.std.specs.Prelude.{◌≡◌, ℕ, ◌+◌, ◌-◌, ◌==◌, nat_lt, if◌then◌else◌, List, [], ◌∷◌, length, take, count_by, Option, Some, None, Result, Ok, Err}
+use Rattle.std.specs.Prelude.{◌≡◌, ℕ, ◌+◌, ◌-◌, ◌==◌, nat_lt, if◌then◌else◌, List, [], ◌∷◌, length}
+use Rattle.std.specs.Prelude.{take, count_by, Option, Some, None, Result, Ok, Err}
 use Rattle.dl_syntax.specs.Ontology.{Declared, nothing_declared}
 use Rattle.owl_reader.specs.declared.entities.Flaw.{Flaw}
 use Rattle.owl_reader.specs.declared.entities.Flaw.TheVariants as flaw
@@ -15,7 +16,8 @@ use Rattle.owl_reader.specs.Terms.{Read}
 use Rattle.owl_reader.specs.Items.{Item}
 use Rattle.owl_reader.specs.Documents.{Document, document_read}
 use Rattle.owl_reader.specs.Refusals.{first_of, in_item}
-use Rattle.owl_reader.specs.Statements.{Said, ◌>>=◌, no_entities, Vocabulary, all_declared, axioms_added}
+use Rattle.owl_reader.specs.Statements.{Said, ◌>>=◌, no_entities, Vocabulary, all_declared}
+use Rattle.owl_reader.specs.Statements.{axioms_added}
 
 -- a line, counted from 1, and what is at fault there
 abbrev pub FaultAt : Type 0
@@ -46,7 +48,8 @@ no_vocabulary = record { entities = no_entities; ontology = nothing_declared }
 
 -- first what is declared and then what is stated, each in the order of the text
 unfoldable pub items_say : Table → Vocabulary → List Item → Said Declared
-items_say known v items = all_declared known v items >>= (λ w. axioms_added known w.entities w.ontology items)
+items_say known v items = all_declared known v items >>= (λ w.
+    axioms_added known w.entities w.ontology items)
 
 abbrev pub with_lines : List ℕ → Said Declared → Result Declared FaultAt
 with_lines text (Ok o) = Ok o
@@ -67,7 +70,8 @@ most_bytes = 4194304
 
 -- a text that is too long is at fault at line 0
 unfoldable pub text_says : List ℕ → Result Declared FaultAt
-text_says text = if nat_lt most_bytes (length text) then Err (0, kind.TooLong) else read_says text (document_read (lexed 0 0 text))
+text_says text = if nat_lt most_bytes (length text) then Err (0, kind.TooLong) else read_says text
+    (document_read (lexed 0 0 text))
 
 -- the fault names a text at a line, unless memory ran out
 abbrev pub Faults : OwlFault → ℕ → List ℕ → Type 0
@@ -76,7 +80,8 @@ Faults fault.Memory at text = Unit {0}
 
 -- the fault is the flaw at its line, unless memory ran out
 abbrev pub IsFlawed : List ℕ → SayFault → OwlFault → Type 0
-IsFlawed text (say.Flaw place flaw) (fault.Bad line what) = (line ≡ line_of text place) × (what ≡ kind_of flaw)
+IsFlawed text (say.Flaw place flaw) (fault.Bad line what) =
+    (line ≡ line_of text place) × (what ≡ kind_of flaw)
 IsFlawed text (say.Flaw place flaw) fault.Memory = ⊥
 IsFlawed text say.Memory (fault.Bad line what) = ⊥
 IsFlawed text say.Memory fault.Memory = Unit {0}

@@ -1,5 +1,7 @@
 -- What the items of a document say, in the statements of an ontology.
-use Rattle.std.specs.Prelude.{ℕ, ◌+◌, nat_lt, ◌||◌, ◌&&◌, not, Bool, true, false, if◌then◌else◌, List, [], ◌∷◌, ◌++◌, map, length, codes, is_some, Option, Some, None, Result, Ok, Err}
+use Rattle.std.specs.Prelude.{ℕ, ◌+◌, nat_lt, ◌||◌, ◌&&◌, not, Bool, true, false, if◌then◌else◌}
+use Rattle.std.specs.Prelude.{List, [], ◌∷◌, ◌++◌, map, length, codes, is_some, Option, Some, None}
+use Rattle.std.specs.Prelude.{Result, Ok, Err}
 use Rattle.std.specs.List.{list_all}
 use Rattle.std.specs.Str.{bytes_eq}
 use Rattle.dl_syntax.specs.declared.names.Kind.{Kind}
@@ -7,7 +9,9 @@ use Rattle.dl_syntax.specs.declared.names.Kind.TheVariants as as_kind
 use Rattle.dl_syntax.specs.Names.{is_letter, is_name_byte}
 use Rattle.dl_syntax.specs.Ontology.{Declared, is_declared}
 use Rattle.ontology_reader.specs.declared.OntologyKind.{OntologyKind}
-use Rattle.ontology_reader.specs.Sayings.{RoleTerm, BasicTerm, concept, existing, Saying, nothing, declares, includes, includes_qualified, includes_roles, parts, parts_roles}
+use Rattle.ontology_reader.specs.Sayings.{RoleTerm, BasicTerm, concept, existing, Saying, nothing}
+use Rattle.ontology_reader.specs.Sayings.{declares, includes, includes_qualified, includes_roles}
+use Rattle.ontology_reader.specs.Sayings.{disjoint, disjoint_roles}
 use Rattle.ontology_reader.specs.Adding.{added}
 use Rattle.owl_reader.specs.declared.words.Head.{Head}
 use Rattle.owl_reader.specs.declared.words.Head.TheVariants as head
@@ -51,12 +55,14 @@ with_entity as_kind.Individual iri name es = record es { individuals = put iri n
 
 -- whether an IRI is declared as some kind
 abbrev pub is_entity : Entities → List ℕ → Bool
-is_entity es iri = is_some (looked_up iri es.concepts) || (is_some (looked_up iri es.roles) || is_some (looked_up iri es.individuals))
+is_entity es iri = is_some (looked_up iri es.concepts) ||
+    (is_some (looked_up iri es.roles) || is_some (looked_up iri es.individuals))
 
 -- a letter and then letters, digits, underscores and hyphens, fewer than 65 bytes
 abbrev pub is_name : List ℕ → Bool
 is_name [] = false
-is_name (first ∷ rest) = nat_lt (length (first ∷ rest)) 65 && (is_letter first && list_all is_name_byte rest)
+is_name (first ∷ rest) = nat_lt (length (first ∷ rest)) 65 &&
+    (is_letter first && list_all is_name_byte rest)
 
 abbrev pub is_reserved : List ℕ → Bool
 is_reserved text = bytes_eq text (codes "some") || bytes_eq text (codes "inv")
@@ -73,7 +79,8 @@ name_or_flaw t (Some name) = Ok name
 abbrev pub iri_resolved : Entities → Kind → Lexeme → Option (List ℕ) → Said (List ℕ)
 iri_resolved es kind t None = Err (t.start, flaw.Unknown)
 iri_resolved es kind t (Some iri) =
-    if is_entity es iri then (if is_usable (name_of t) then name_or_flaw t (looked_up iri (entities_of kind es)) else Err (t.start, flaw.BadName))
+    if is_entity es iri then (if is_usable (name_of t) then name_or_flaw t
+    (looked_up iri (entities_of kind es)) else Err (t.start, flaw.BadName))
     else Err (t.start, flaw.Unknown)
 
 -- the name of an entity that is to be of this kind; what isn't taken is of no kind
@@ -140,8 +147,8 @@ sub (basic b) (qualified r name) = includes_qualified b r name
 sub _ _ = nothing
 
 abbrev pub disjoint : Term → Term → Saying
-disjoint (role r) (role s) = parts_roles r s
-disjoint (basic b) (basic c) = parts b c
+disjoint (role r) (role s) = disjoint_roles r s
+disjoint (basic b) (basic c) = disjoint b c
 disjoint _ _ = nothing
 
 -- each in the next one, and the last in the first
@@ -234,7 +241,8 @@ item_added known es o _ = Ok o
 
 unfoldable pub axioms_added : Table → Entities → Declared → List i.Item → Said Declared
 axioms_added known es o [] = Ok o
-axioms_added known es o (item ∷ rest) = item_added known es o item >>= (λ next. axioms_added known es next rest)
+axioms_added known es o (item ∷ rest) =
+    item_added known es o item >>= (λ next. axioms_added known es next rest)
 
 -- ---- declarations
 
@@ -247,7 +255,8 @@ pub record Vocabulary : Type 0 where
 abbrev pub newly_declared : Vocabulary → Kind → Lexeme → List ℕ → ℕ → Said Vocabulary
 newly_declared v kind t iri close =
     if is_declared v.ontology (name_of t) then Err (t.start, flaw.NameTwice)
-    else (within_limits close (added v.ontology (declares kind (name_of t))) >>= (λ o. Ok (record { entities = with_entity kind iri (name_of t) v.entities; ontology = o })))
+    else (within_limits close (added v.ontology (declares kind (name_of t))) >>= (λ o.
+    Ok (record { entities = with_entity kind iri (name_of t) v.entities; ontology = o })))
 
 -- the name of a repeated declaration is that of another entity
 abbrev pub is_given : Vocabulary → Lexeme → List ℕ → Bool
@@ -257,14 +266,16 @@ is_given v t name = not (bytes_eq name (name_of t)) && is_declared v.ontology (n
 abbrev pub again_declared : Vocabulary → Lexeme → List ℕ → Said Vocabulary
 again_declared v t name = if is_given v t name then Err (t.start, flaw.NameTwice) else Ok v
 
-abbrev pub known_or_new : Vocabulary → Kind → Lexeme → List ℕ → ℕ → Option (List ℕ) → Said Vocabulary
+abbrev pub known_or_new : Vocabulary → Kind → Lexeme → List ℕ → ℕ → Option (List ℕ)
+    → Said Vocabulary
 known_or_new v kind t iri close None = newly_declared v kind t iri close
 known_or_new v kind t iri close (Some name) = again_declared v t name
 
 abbrev pub iri_declared : Vocabulary → Kind → Lexeme → ℕ → Option (List ℕ) → Said Vocabulary
 iri_declared v kind t close None = Err (t.start, flaw.Unknown)
 iri_declared v kind t close (Some iri) =
-    if is_usable (name_of t) then known_or_new v kind t iri close (looked_up iri (entities_of kind v.entities)) else Err (t.start, flaw.BadName)
+    if is_usable (name_of t) then known_or_new v kind t iri close
+    (looked_up iri (entities_of kind v.entities)) else Err (t.start, flaw.BadName)
 
 abbrev pub entity_declared : Table → Vocabulary → Kind → t.Entity → ℕ → Said Vocabulary
 entity_declared known v kind (t.named t) close = iri_declared v kind t close (expanded known t)
@@ -276,4 +287,5 @@ item_declared known v _ = Ok v
 
 unfoldable pub all_declared : Table → Vocabulary → List i.Item → Said Vocabulary
 all_declared known v [] = Ok v
-all_declared known v (item ∷ rest) = item_declared known v item >>= (λ next. all_declared known next rest)
+all_declared known v (item ∷ rest) =
+    item_declared known v item >>= (λ next. all_declared known next rest)

@@ -14,4 +14,5 @@ looked_up key (entry ∷ rest) = if bytes_eq key entry.0 then Some entry.1 else 
 -- the table with the text under the key, in place of the one that was there
 unfoldable pub put : List ℕ → List ℕ → Table → Table
 put key text [] = (key, text) ∷ []
-put key text (entry ∷ rest) = if bytes_eq key entry.0 then (entry.0, text) ∷ rest else entry ∷ put key text rest
+put key text (entry ∷ rest) = if bytes_eq key entry.0 then (entry.0, text) ∷ rest else entry
+    ∷ put key text rest

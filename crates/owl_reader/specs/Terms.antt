@@ -1,6 +1,8 @@
 -- The terms of a document, as they are written: what tokens begin with, and the tokens behind it.
--- Where no term is written so, the place of the first token that isn't allowed, and none where the text ends.
-use Rattle.std.specs.Prelude.{ℕ, zero, suc, ◌+◌, ◌-◌, ◌==◌, Bool, true, false, if◌then◌else◌, List, [], ◌∷◌, Option, Some, None, Result, Ok, Err, codes}
+-- Where no term is written so, the place of the first token that isn't allowed, and none where the
+-- text ends.
+use Rattle.std.specs.Prelude.{ℕ, zero, suc, ◌+◌, ◌-◌, ◌==◌, Bool, true, false, if◌then◌else◌, List}
+use Rattle.std.specs.Prelude.{[], ◌∷◌, Option, Some, None, Result, Ok, Err, codes}
 use Rattle.std.specs.List.{list_any}
 use Rattle.owl_reader.specs.declared.tokens.TokenKind.{TokenKind}
 use Rattle.owl_reader.specs.declared.tokens.TokenKind.TheVariants as kind
@@ -67,14 +69,17 @@ stepped (step.Inside depth) place rest more = more depth
 stepped step.Behind place rest more = Ok rest
 stepped step.Fault place rest more = Err (Some place)
 
--- the tokens behind a group, from behind its opening parenthesis on, where so many groups are open in it
+-- the tokens behind a group, from behind its opening parenthesis on, where so many groups are open
+-- in it
 unfoldable pub group_end : ℕ → List Lexeme → Read (List Lexeme)
 group_end depth [] = Err None
-group_end depth (t ∷ rest) = stepped (group_step depth t.kind) t.start rest (λ next. group_end next rest)
+group_end depth (t ∷ rest) = stepped (group_step depth t.kind) t.start rest (λ next.
+    group_end next rest)
 
 -- ---- what a term begins with
 
--- an entity, or a word that heads a group, and the tokens behind the entity or the opening parenthesis
+-- an entity, or a word that heads a group, and the tokens behind the entity or the opening
+-- parenthesis
 pub data First : Type 0 where
   entity : Lexeme → List Lexeme → First
   group : Head → Lexeme → List Lexeme → First
@@ -122,7 +127,8 @@ qualified_end known inside = do
   end ← close_first rest
   Ok end.1
 
--- the tokens behind a group that isn't taken where it stands: one that no word of the profile heads, or a qualified expression
+-- the tokens behind a group that isn't taken where it stands: one that no word of the profile
+-- heads, or a qualified expression
 abbrev pub refused_end : Table → Head → Lexeme → List Lexeme → Read (List Lexeme)
 refused_end known head.Other t inside = group_end 0 inside
 refused_end known head.ObjectSomeValuesFrom t inside = qualified_end known inside
@@ -204,7 +210,8 @@ existing_from known t inside = do
   Ok (existing t role.0 filler.0, end.1)
 
 abbrev pub plain_class : Table → First → Read (Class × List Lexeme)
-plain_class known (entity t rest) = Ok (if is_thing known t then everything t else only (named t), rest)
+plain_class known (entity t rest) =
+    Ok (if is_thing known t then everything t else only (named t), rest)
 plain_class known (group word t inside) = do
   rest ← refused_end known word t inside
   Ok (only (refused t), rest)

@@ -1,5 +1,6 @@
 -- Trees and answers, without where their texts lie in memory.
-use Rattle.std.specs.Prelude.{◌≡◌, ℕ, ◌<◌, ◌≤◌, List, length, map, Option, Some, None, Result, Ok, Err}
+use Rattle.std.specs.Prelude.{◌≡◌, ℕ, ◌<◌, ◌≤◌, List, length, map, Option, Some, None, Result, Ok}
+use Rattle.std.specs.Prelude.{Err}
 use Rattle.owl_reader.specs.declared.groups.Stop.{Stop}
 use Rattle.owl_reader.specs.declared.groups.Stop.TheVariants as stop
 use Rattle.owl_reader.specs.declared.terms.First as firsts
@@ -10,7 +11,8 @@ use Rattle.owl_reader.specs.declared.terms.Role as roles
 use Rattle.owl_reader.specs.declared.terms.Class as classes
 use Rattle.owl_reader.specs.declared.terms.Class.TheVariants as class_of
 use Rattle.owl_reader.specs.Tokens.{Lexeme, lexeme}
-use Rattle.owl_reader.specs.Terms.{Read, stops_at, First, entity, group, Entity, named, refused, Role, Class, everything, only, some_of, some_in}
+use Rattle.owl_reader.specs.Terms.{Read, stops_at, First, entity, group, Entity, named, refused}
+use Rattle.owl_reader.specs.Terms.{Role, Class, everything, only, some_of, some_in}
 
 -- the answer is what is read, unless memory ran out
 abbrev pub Gives : {X Y : Type 0} → Result X Stop → Read Y → (X → Y) → Type 0
@@ -33,7 +35,8 @@ room_behind (first_of.Group word t inside) = length inside.now
 module _ (bytes : List ℕ) where
   abbrev pub first_seen : firsts.First → First
   first_seen (first_of.Entity t rest) = entity (lexeme bytes t) (map (lexeme bytes) rest.now)
-  first_seen (first_of.Group word t inside) = group word (lexeme bytes t) (map (lexeme bytes) inside.now)
+  first_seen (first_of.Group word t inside) =
+      group word (lexeme bytes t) (map (lexeme bytes) inside.now)
 
   abbrev pub entity_seen : entities.Entity → Entity
   entity_seen (entity_of.Named t) = named (lexeme bytes t)

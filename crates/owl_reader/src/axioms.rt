@@ -1,3 +1,5 @@
+//! What the axioms of a document say.
+
 ghost use Rattle.std.specs.Prelude.{List, ℕ, ◌≡◌, ◌∷◌, [], ◌++◌, IfOk, OnOk, map, length};
 ghost use Rattle.ontology_reader.specs.Answers.{Changes, IsDeclarableSaying};
 ghost use Rattle.ontology_reader.specs.Views as sayings;
@@ -57,29 +59,32 @@ fn disjoint<'a>(left: &Term<'a>, right: &Term<'a>) -> Saying<'a>
     ensures { sayings.saying_seen result ≡ s.disjoint (term_seen left.now) (term_seen right.now) }
 {
     match (left, right) {
-        (Term::Role(left), Term::Role(right)) => Saying::PartsRoles(*left, *right),
-        (Term::Basic(left), Term::Basic(right)) => Saying::Parts(*left, *right),
+        (Term::Role(left), Term::Role(right)) => Saying::DisjointRoles(*left, *right),
+        (Term::Basic(left), Term::Basic(right)) => Saying::Disjoint(*left, *right),
         _ => Saying::Nothing,
     }
 }
 
 /// Adds what two terms say.
 fn add_sub(ontology: &mut Ontology, left: &Term<'_>, right: &Term<'_>) -> Result<(), LineFault>
-    ensures { Changes result (s.added_one ontology.old (s.sub (term_seen left.now) (term_seen right.now))) ontology.new }
+    ensures { Changes result (s.added_one ontology.old
+        (s.sub (term_seen left.now) (term_seen right.now))) ontology.new }
 {
     add(ontology, &sub(left, right))
 }
 
 /// Adds that nothing is in both.
 fn add_disjoint(ontology: &mut Ontology, left: &Term<'_>, right: &Term<'_>) -> Result<(), LineFault>
-    ensures { Changes result (s.added_one ontology.old (s.disjoint (term_seen left.now) (term_seen right.now))) ontology.new }
+    ensures { Changes result (s.added_one ontology.old
+        (s.disjoint (term_seen left.now) (term_seen right.now))) ontology.new }
 {
     add(ontology, &disjoint(left, right))
 }
 
 /// Adds each in the next one, and the last in the first.
 fn add_equivalent(ontology: &mut Ontology, terms: &[Term<'_>]) -> Result<(), LineFault>
-    ensures { Changes result (s.all_added ontology.old (s.equivalent (map term_seen terms.now))) ontology.new }
+    ensures { Changes result (s.all_added ontology.old (s.equivalent (map term_seen terms.now)))
+        ontology.new }
 {
     let mut place = 0;
     while place < terms.len() {
@@ -103,7 +108,8 @@ fn add_disjoint_each(
     left: &Term<'_>,
     terms: &[Term<'_>],
 ) -> Result<(), LineFault>
-    ensures { Changes result (s.all_added ontology.old (map (s.disjoint (term_seen left.now)) (map term_seen terms.now))) ontology.new }
+    ensures { Changes result (s.all_added ontology.old
+        (map (s.disjoint (term_seen left.now)) (map term_seen terms.now))) ontology.new }
 {
     let mut place = 0;
     while place < terms.len() {
@@ -118,7 +124,8 @@ fn add_disjoint_each(
 
 /// Adds that each term is disjoint with each of those behind it.
 fn add_all_disjoint(ontology: &mut Ontology, terms: &[Term<'_>]) -> Result<(), LineFault>
-    ensures { Changes result (s.all_added ontology.old (s.all_disjoint (map term_seen terms.now))) ontology.new }
+    ensures { Changes result (s.all_added ontology.old (s.all_disjoint (map term_seen terms.now)))
+        ontology.new }
 {
     let mut place = 0;
     while place < terms.len() {
@@ -135,7 +142,8 @@ fn add_all_disjoint(ontology: &mut Ontology, terms: &[Term<'_>]) -> Result<(), L
 #[tactic(auto, unfolding(crate::specs::Statements::all_added))]
 fn add_last(ontology: &mut Ontology, saying: &Saying<'_>) -> Result<(), LineFault>
     requires { IsDeclarableSaying (sayings.saying_seen saying.now) }
-    ensures { Changes result (s.all_added ontology.old (sayings.saying_seen saying.now ∷ [])) ontology.new }
+    ensures { Changes result (s.all_added ontology.old (sayings.saying_seen saying.now ∷ []))
+        ontology.new }
 {
     add(ontology, saying)
 }
@@ -143,7 +151,8 @@ fn add_last(ontology: &mut Ontology, saying: &Saying<'_>) -> Result<(), LineFaul
 /// Adds that one term is in another.
 #[tactic(auto, unfolding(crate::specs::Statements::all_added))]
 fn add_sub_first(ontology: &mut Ontology, terms: &[Term<'_>]) -> Result<(), LineFault>
-    ensures { Changes result (s.all_added ontology.old (s.sub_first (map term_seen terms.now))) ontology.new }
+    ensures { Changes result (s.all_added ontology.old (s.sub_first (map term_seen terms.now)))
+        ontology.new }
 {
     match terms {
         [left, right] => add_last(ontology, &sub(left, right)),
@@ -154,7 +163,8 @@ fn add_sub_first(ontology: &mut Ontology, terms: &[Term<'_>]) -> Result<(), Line
 /// Adds that each of two roles is the other one the other way round.
 #[tactic(auto, unfolding(crate::specs::Statements::all_added))]
 fn add_inverses(ontology: &mut Ontology, terms: &[Term<'_>]) -> Result<(), LineFault>
-    ensures { Changes result (s.all_added ontology.old (s.inverses (map term_seen terms.now))) ontology.new }
+    ensures { Changes result (s.all_added ontology.old (s.inverses (map term_seen terms.now)))
+        ontology.new }
 {
     match terms {
         [left, right] => {
@@ -171,7 +181,8 @@ fn add_inverses(ontology: &mut Ontology, terms: &[Term<'_>]) -> Result<(), LineF
 /// Adds that a role holds both ways.
 #[tactic(auto, unfolding(crate::specs::Statements::all_added))]
 fn add_symmetric(ontology: &mut Ontology, terms: &[Term<'_>]) -> Result<(), LineFault>
-    ensures { Changes result (s.all_added ontology.old (s.symmetric (map term_seen terms.now))) ontology.new }
+    ensures { Changes result (s.all_added ontology.old (s.symmetric (map term_seen terms.now)))
+        ontology.new }
 {
     match terms {
         [role] => add_last(ontology, &sub(role, &turned(role))),
@@ -182,7 +193,8 @@ fn add_symmetric(ontology: &mut Ontology, terms: &[Term<'_>]) -> Result<(), Line
 /// Adds that a role never holds both ways.
 #[tactic(auto, unfolding(crate::specs::Statements::all_added))]
 fn add_asymmetric(ontology: &mut Ontology, terms: &[Term<'_>]) -> Result<(), LineFault>
-    ensures { Changes result (s.all_added ontology.old (s.asymmetric (map term_seen terms.now))) ontology.new }
+    ensures { Changes result (s.all_added ontology.old (s.asymmetric (map term_seen terms.now)))
+        ontology.new }
 {
     match terms {
         [role] => add_last(ontology, &disjoint(role, &turned(role))),
@@ -193,7 +205,8 @@ fn add_asymmetric(ontology: &mut Ontology, terms: &[Term<'_>]) -> Result<(), Lin
 /// Adds that what stands first in a pair of a role is in a class.
 #[tactic(auto, unfolding(crate::specs::Statements::all_added))]
 fn add_domain(ontology: &mut Ontology, terms: &[Term<'_>]) -> Result<(), LineFault>
-    ensures { Changes result (s.all_added ontology.old (s.domain (map term_seen terms.now))) ontology.new }
+    ensures { Changes result (s.all_added ontology.old (s.domain (map term_seen terms.now)))
+        ontology.new }
 {
     match terms {
         [role, class] => add_last(ontology, &sub(&standing(role), class)),
@@ -204,7 +217,8 @@ fn add_domain(ontology: &mut Ontology, terms: &[Term<'_>]) -> Result<(), LineFau
 /// Adds that what stands second in a pair of a role is in a class.
 #[tactic(auto, unfolding(crate::specs::Statements::all_added))]
 fn add_range(ontology: &mut Ontology, terms: &[Term<'_>]) -> Result<(), LineFault>
-    ensures { Changes result (s.all_added ontology.old (s.range (map term_seen terms.now))) ontology.new }
+    ensures { Changes result (s.all_added ontology.old (s.range (map term_seen terms.now)))
+        ontology.new }
 {
     match terms {
         [role, class] => add_last(ontology, &sub(&standing(&turned(role)), class)),
@@ -215,7 +229,8 @@ fn add_range(ontology: &mut Ontology, terms: &[Term<'_>]) -> Result<(), LineFaul
 /// Adds what an axiom says.
 #[tactic(auto, unfolding(crate::specs::Statements::all_added))]
 fn add_statements(ontology: &mut Ontology, form: Head, terms: &[Term<'_>]) -> Result<(), LineFault>
-    ensures { Changes result (s.all_added ontology.old (s.statements form (map term_seen terms.now))) ontology.new }
+    ensures { Changes result (s.all_added ontology.old
+        (s.statements form (map term_seen terms.now))) ontology.new }
 {
     match form {
         Head::SubClassOf | Head::SubObjectPropertyOf => add_sub_first(ontology, terms),
@@ -242,7 +257,8 @@ fn role_terms<'a>(
     entities: &'a Entities,
     roles: &[Role],
 ) -> Result<Vec<Term<'a>>, SayFault>
-    ensures { Says result (s.all_said (s.role_term known.now (entities_seen entities.now)) (map (role_seen bytes.now) roles.now)) (λ terms. map term_seen terms.items) }
+    ensures { Says result (s.all_said (s.role_term known.now (entities_seen entities.now))
+        (map (role_seen bytes.now) roles.now)) (λ terms. map term_seen terms.items) }
 {
     let mut terms = Vec::new(alloc);
     let mut place = 0;
@@ -265,7 +281,9 @@ fn class_terms<'a>(
     roles: Vec<Term<'a>>,
     classes: &[Class],
 ) -> Result<Vec<Term<'a>>, SayFault>
-    ensures { Says result (s.said_behind (map term_seen roles.entry.items) (s.all_said (s.class_term known.now (entities_seen entities.now)) (map (class_seen bytes.now) classes.now))) (λ terms. map term_seen terms.items) }
+    ensures { Says result (s.said_behind (map term_seen roles.entry.items)
+        (s.all_said (s.class_term known.now (entities_seen entities.now))
+        (map (class_seen bytes.now) classes.now))) (λ terms. map term_seen terms.items) }
 {
     let mut terms = roles;
     let mut place = 0;
@@ -288,7 +306,8 @@ fn terms_said<'a>(
     entities: &'a Entities,
     axiom: &Axiom,
 ) -> Result<Vec<Term<'a>>, SayFault>
-    ensures { Says result (s.terms_said known.now (entities_seen entities.now) (axiom_seen bytes.now axiom.now)) (λ terms. map term_seen terms.items) }
+    ensures { Says result (s.terms_said known.now (entities_seen entities.now)
+        (axiom_seen bytes.now axiom.now)) (λ terms. map term_seen terms.items) }
 {
     match role_terms(alloc, bytes, known, entities, axiom.roles.as_slice()) {
         Ok(roles) => class_terms(
@@ -313,7 +332,8 @@ fn add_axiom(
     ontology: &mut Ontology,
     axiom: &Axiom,
 ) -> Result<(), SayFault>
-    ensures { Becomes result (s.axiom_added known.now (entities_seen entities.now) ontology.old (axiom_seen bytes.now axiom.now)) ontology.new }
+    ensures { Becomes result (s.axiom_added known.now (entities_seen entities.now) ontology.old
+        (axiom_seen bytes.now axiom.now)) ontology.new }
 {
     match terms_said(alloc, bytes, known, entities, axiom) {
         Ok(terms) => match add_statements(ontology, axiom.form, terms.as_slice()) {
@@ -334,7 +354,8 @@ fn add_item(
     ontology: &mut Ontology,
     item: &Item,
 ) -> Result<(), SayFault>
-    ensures { Becomes result (s.item_added known.now (entities_seen entities.now) ontology.old (item_seen bytes.now item.now)) ontology.new }
+    ensures { Becomes result (s.item_added known.now (entities_seen entities.now) ontology.old
+        (item_seen bytes.now item.now)) ontology.new }
 {
     match item {
         Item::States(axiom) => add_axiom(alloc, bytes, known, entities, ontology, axiom),
@@ -351,7 +372,8 @@ pub(crate) fn add_axioms(
     ontology: &mut Ontology,
     items: &[Item],
 ) -> Result<(), SayFault>
-    ensures { Becomes result (s.axioms_added known.now (entities_seen entities.now) ontology.old (map (item_seen bytes.now) items.now)) ontology.new }
+    ensures { Becomes result (s.axioms_added known.now (entities_seen entities.now) ontology.old
+        (map (item_seen bytes.now) items.now)) ontology.new }
 {
     let mut place = 0;
     'each: while place < items.len() {

@@ -1,3 +1,5 @@
+//! What the declarations of a document say.
+
 ghost use Rattle.std.specs.Prelude.{List, ℕ, ◌≡◌, Some, true, IfOk, OnOk, map, length};
 ghost use Rattle.owl_reader.specs.Tokens.{lexeme};
 ghost use Rattle.owl_reader.specs.Iris.{name_of};
@@ -31,7 +33,8 @@ fn put_entity(
     iri: &[u8],
     name: &[u8],
 ) -> Result<(), AllocError>
-    ensures { OnOk result (entities_seen entities.new ≡ s.with_entity kind iri.now name.now (entities_seen entities.old)) }
+    ensures { OnOk result (entities_seen entities.new
+        ≡ s.with_entity kind iri.now name.now (entities_seen entities.old)) }
 {
     match kind {
         Kind::Concept => entities.concepts.put(iri, name),
@@ -50,7 +53,8 @@ fn declare_new(
     close: usize,
 ) -> Result<(), SayFault>
     requires { s.is_usable (name_of (lexeme bytes.now token.now)) ≡ true }
-    ensures { Becomes result (s.newly_declared (vocabulary_seen vocabulary.old) kind (lexeme bytes.now token.now) iri.now close) (vocabulary_seen vocabulary.new) }
+    ensures { Becomes result (s.newly_declared (vocabulary_seen vocabulary.old) kind
+        (lexeme bytes.now token.now) iri.now close) (vocabulary_seen vocabulary.new) }
 {
     let name = name_of(bytes, token);
     if vocabulary.ontology.is_declared(name) {
@@ -68,7 +72,8 @@ fn declare_new(
 
 /// Whether a repeated declaration gives its entity the name of another one.
 fn is_given(bytes: &[u8], vocabulary: &Vocabulary, token: &Token, name: &[u8]) -> bool
-    ensures { result ≡ s.is_given (vocabulary_seen vocabulary.now) (lexeme bytes.now token.now) name.now }
+    ensures { result ≡ s.is_given (vocabulary_seen vocabulary.now) (lexeme bytes.now token.now)
+        name.now }
 {
     let again = name_of(bytes, token);
     name != again && vocabulary.ontology.is_declared(again)
@@ -83,7 +88,8 @@ fn declare_iri(
     iri: &[u8],
     close: usize,
 ) -> Result<(), SayFault>
-    ensures { Becomes result (s.iri_declared (vocabulary_seen vocabulary.old) kind (lexeme bytes.now token.now) close (Some iri.now)) (vocabulary_seen vocabulary.new) }
+    ensures { Becomes result (s.iri_declared (vocabulary_seen vocabulary.old) kind
+        (lexeme bytes.now token.now) close (Some iri.now)) (vocabulary_seen vocabulary.new) }
 {
     if !is_usable(name_of(bytes, token)) {
         return Err(SayFault::Flaw(token.start, Flaw::BadName));
@@ -108,7 +114,8 @@ fn declare_item(
     vocabulary: &mut Vocabulary,
     item: &Item,
 ) -> Result<(), SayFault>
-    ensures { Becomes result (s.item_declared known.now (vocabulary_seen vocabulary.old) (item_seen bytes.now item.now)) (vocabulary_seen vocabulary.new) }
+    ensures { Becomes result (s.item_declared known.now (vocabulary_seen vocabulary.old)
+        (item_seen bytes.now item.now)) (vocabulary_seen vocabulary.new) }
 {
     match item {
         Item::Declares(_, Entity::Refused(token), _) => {
@@ -135,7 +142,8 @@ pub(crate) fn declare_all(
     vocabulary: &mut Vocabulary,
     items: &[Item],
 ) -> Result<(), SayFault>
-    ensures { Becomes result (s.all_declared known.now (vocabulary_seen vocabulary.old) (map (item_seen bytes.now) items.now)) (vocabulary_seen vocabulary.new) }
+    ensures { Becomes result (s.all_declared known.now (vocabulary_seen vocabulary.old)
+        (map (item_seen bytes.now) items.now)) (vocabulary_seen vocabulary.new) }
 {
     let mut place = 0;
     'each: while place < items.len() {

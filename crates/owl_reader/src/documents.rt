@@ -1,4 +1,7 @@
-ghost use Rattle.std.specs.Prelude.{List, ℕ, ◌≡◌, ◌<◌, ◌≤◌, ◌++◌, [], IfOk, OnOk, length, map, codes};
+//! Documents: prefixes, and an ontology of items.
+
+ghost use Rattle.std.specs.Prelude.{List, ℕ, ◌≡◌, ◌<◌, ◌≤◌, ◌++◌, [], IfOk, OnOk, length, map};
+ghost use Rattle.std.specs.Prelude.{codes};
 ghost use Rattle.owl_reader.specs.Tokens.{lexeme};
 ghost use Rattle.owl_reader.specs.Tables.{Table as TableSeen};
 ghost use Rattle.owl_reader.specs.Iris.{own_prefixes, with_prefixes};
@@ -32,7 +35,8 @@ fn is_the_word(bytes: &[u8], text: &[u8], token: &Token) -> bool
 
 /// The tokens behind a word and the opening parenthesis of the group that it heads.
 fn headed_first<'b>(bytes: &[u8], text: &[u8], tokens: &'b [Token]) -> Result<&'b [Token], Stop>
-    ensures given { Gives result (d.headed_first text.now (map (lexeme bytes.now) tokens.now)) (λ rest. map (lexeme bytes.now) rest.now) }
+    ensures given { Gives result (d.headed_first text.now (map (lexeme bytes.now) tokens.now))
+        (λ rest. map (lexeme bytes.now) rest.now) }
     ensures shorter { IfOk result (λ rest. length rest.now < length tokens.now) }
 {
     match tokens {
@@ -55,7 +59,8 @@ fn is_prefix_name(bytes: &[u8], token: &Token) -> bool
 
 /// A prefix before its equals sign.
 fn name_first<'a, 'b>(bytes: &'a [u8], tokens: &'b [Token]) -> Result<(&'a [u8], &'b [Token]), Stop>
-    ensures given { Gives result (d.name_first (map (lexeme bytes.now) tokens.now)) (λ found. (found.0.now, map (lexeme bytes.now) found.1.now)) }
+    ensures given { Gives result (d.name_first (map (lexeme bytes.now) tokens.now)) (λ found.
+        (found.0.now, map (lexeme bytes.now) found.1.now)) }
     ensures shorter { IfOk result (λ found. length found.1.now < length tokens.now) }
 {
     match tokens {
@@ -72,7 +77,9 @@ fn name_first<'a, 'b>(bytes: &'a [u8], tokens: &'b [Token]) -> Result<(&'a [u8],
 
 /// The tokens behind an equals sign.
 fn equal_first<'b>(tokens: &'b [Token]) -> Result<&'b [Token], Stop>
-    ensures given { (bytes : List ℕ) → Gives result (d.equal_first (map (lexeme bytes) tokens.now)) (λ rest. map (lexeme bytes) rest.now) }
+    ensures given { (bytes : List ℕ)
+        → Gives result (d.equal_first (map (lexeme bytes) tokens.now)) (λ rest.
+        map (lexeme bytes) rest.now) }
     ensures shorter { IfOk result (λ rest. length rest.now < length tokens.now) }
 {
     match tokens {
@@ -89,7 +96,8 @@ fn equal_first<'b>(tokens: &'b [Token]) -> Result<&'b [Token], Stop>
 
 /// An IRI.
 fn iri_first<'a, 'b>(bytes: &'a [u8], tokens: &'b [Token]) -> Result<(&'a [u8], &'b [Token]), Stop>
-    ensures given { Gives result (d.iri_first (map (lexeme bytes.now) tokens.now)) (λ found. (found.0.now, map (lexeme bytes.now) found.1.now)) }
+    ensures given { Gives result (d.iri_first (map (lexeme bytes.now) tokens.now)) (λ found.
+        (found.0.now, map (lexeme bytes.now) found.1.now)) }
     ensures shorter { IfOk result (λ found. length found.1.now < length tokens.now) }
 {
     match tokens {
@@ -110,7 +118,8 @@ fn prefix_first<'a, 'b>(
     bytes: &'a [u8],
     tokens: &'b [Token],
 ) -> Result<(Prefix<'a>, &'b [Token]), Stop>
-    ensures given { Gives result (d.prefix_first (map (lexeme bytes.now) tokens.now)) (λ found. (prefix_seen found.0, map (lexeme bytes.now) found.1.now)) }
+    ensures given { Gives result (d.prefix_first (map (lexeme bytes.now) tokens.now)) (λ found.
+        (prefix_seen found.0, map (lexeme bytes.now) found.1.now)) }
     ensures shorter { IfOk result (λ found. length found.1.now < length tokens.now) }
 {
     let inside = headed_first(bytes, b"Prefix", tokens)?;
@@ -137,7 +146,8 @@ fn prefixes_first<'a, 'b>(
     bytes: &'a [u8],
     tokens: &'b [Token],
 ) -> Result<(Vec<Prefix<'a>>, &'b [Token]), Stop>
-    ensures given { Gives result (d.prefixes_first (map (lexeme bytes.now) tokens.now)) (λ found. (map prefix_seen found.0.items, map (lexeme bytes.now) found.1.now)) }
+    ensures given { Gives result (d.prefixes_first (map (lexeme bytes.now) tokens.now)) (λ found.
+        (map prefix_seen found.0.items, map (lexeme bytes.now) found.1.now)) }
     ensures shorter { IfOk result (λ found. length found.1.now ≤ length tokens.now) }
 {
     let mut prefixes = Vec::new(alloc);
@@ -161,7 +171,9 @@ fn items_listed<'b>(
     known: &Table,
     tokens: &'b [Token],
 ) -> Result<(Vec<Item>, &'b [Token]), Stop>
-    ensures given { Gives result (i.up_to_close (i.item_first known.now) (map (lexeme bytes.now) tokens.now)) (λ found. (map (item_seen bytes.now) found.0.items, map (lexeme bytes.now) found.1.now)) }
+    ensures given { Gives result (i.up_to_close (i.item_first known.now)
+        (map (lexeme bytes.now) tokens.now)) (λ found.
+        (map (item_seen bytes.now) found.0.items, map (lexeme bytes.now) found.1.now)) }
     ensures shorter { IfOk result (λ found. length found.1.now ≤ length tokens.now) }
 {
     let mut items = Vec::new(alloc);
@@ -180,7 +192,8 @@ fn items_listed<'b>(
 
 /// The tokens behind an IRI that may stand first.
 fn behind_iri<'b>(tokens: &'b [Token]) -> &'b [Token]
-    ensures given { (bytes : List ℕ) → map (lexeme bytes) result.now ≡ d.behind_iri (map (lexeme bytes) tokens.now) }
+    ensures given { (bytes : List ℕ)
+        → map (lexeme bytes) result.now ≡ d.behind_iri (map (lexeme bytes) tokens.now) }
     ensures shorter { length result.now ≤ length tokens.now }
 {
     match tokens {
@@ -191,7 +204,8 @@ fn behind_iri<'b>(tokens: &'b [Token]) -> &'b [Token]
 
 /// The tokens behind the IRIs that may stand first, two at most.
 fn behind_iris<'b>(tokens: &'b [Token]) -> &'b [Token]
-    ensures given { (bytes : List ℕ) → map (lexeme bytes) result.now ≡ d.behind_iris (map (lexeme bytes) tokens.now) }
+    ensures given { (bytes : List ℕ)
+        → map (lexeme bytes) result.now ≡ d.behind_iris (map (lexeme bytes) tokens.now) }
     ensures shorter { length result.now ≤ length tokens.now }
 {
     behind_iri(behind_iri(tokens))
@@ -205,7 +219,8 @@ fn ontology_items(
     known: &Table,
     tokens: &[Token],
 ) -> Result<Vec<Item>, Stop>
-    ensures { Gives result (d.ontology_read known.now (map (lexeme bytes.now) tokens.now)) (λ items. record { known = known.now; items = map (item_seen bytes.now) items.items }) }
+    ensures { Gives result (d.ontology_read known.now (map (lexeme bytes.now) tokens.now)) (λ items.
+        record { known = known.now; items = map (item_seen bytes.now) items.items }) }
 {
     let inside = headed_first(bytes, b"Ontology", tokens)?;
     let (items, rest) = items_listed(alloc, bytes, known, behind_iris(inside))?;
@@ -219,7 +234,8 @@ fn ontology_items(
 /// The document that the tokens are.
 #[tactic(auto, unfolding(crate::specs::Documents::document_read))]
 pub(crate) fn document_read(alloc: Global, bytes: &[u8], tokens: &[Token]) -> Result<Document, Stop>
-    ensures { Gives result (d.document_read (map (lexeme bytes.now) tokens.now)) (document_seen bytes.now) }
+    ensures { Gives result (d.document_read (map (lexeme bytes.now) tokens.now))
+        (document_seen bytes.now) }
 {
     let (prefixes, rest) = prefixes_first(alloc, bytes, tokens)?;
     let mut known = Table::new(alloc);

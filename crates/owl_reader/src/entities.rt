@@ -1,3 +1,5 @@
+//! Entities, and what they are declared as.
+
 ghost use Rattle.std.specs.Prelude.{List, ℕ, ◌≡◌, true, Some, [], IfOk, OnOk, map, length};
 ghost use Rattle.std.specs.Option.{option_map};
 ghost use Rattle.dl_syntax.specs.Names.{IsDeclarable};
@@ -74,7 +76,8 @@ pub(crate) enum Term<'a> {
 
 /// The name of the entity that is declared as the kind with the IRI.
 pub(crate) fn name_under<'a>(entities: &'a Entities, kind: Kind, iri: &[u8]) -> Option<&'a [u8]>
-    ensures { option_map (λ name. name.now) result ≡ looked_up iri.now (s.entities_of kind (entities_seen entities.now)) }
+    ensures { option_map (λ name. name.now) result
+        ≡ looked_up iri.now (s.entities_of kind (entities_seen entities.now)) }
 {
     match kind {
         Kind::Concept => entities.concepts.find(iri),
@@ -120,7 +123,8 @@ fn iri_resolved<'a>(
     token: &Token,
     iri: &[u8],
 ) -> Result<&'a [u8], SayFault>
-    ensures { Says result (s.iri_resolved (entities_seen entities.now) kind (lexeme bytes.now token.now) (Some iri.now)) (λ name. name.now) }
+    ensures { Says result (s.iri_resolved (entities_seen entities.now) kind
+        (lexeme bytes.now token.now) (Some iri.now)) (λ name. name.now) }
 {
     if !is_entity(entities, iri) {
         return Err(SayFault::Flaw(token.start, Flaw::Unknown));
@@ -143,7 +147,8 @@ pub(crate) fn resolved<'a>(
     kind: Kind,
     entity: &Entity,
 ) -> Result<&'a [u8], SayFault>
-    ensures { Says result (s.resolved known.now (entities_seen entities.now) kind (entity_seen bytes.now entity.now)) (λ name. name.now) }
+    ensures { Says result (s.resolved known.now (entities_seen entities.now) kind
+        (entity_seen bytes.now entity.now)) (λ name. name.now) }
 {
     match entity {
         Entity::Refused(token) => Err(SayFault::Flaw(token.start, Flaw::WrongKind)),
@@ -163,7 +168,8 @@ fn role_said<'a>(
     entities: &'a Entities,
     role: &Role,
 ) -> Result<RoleTerm<'a>, SayFault>
-    ensures { Says result (s.role_said known.now (entities_seen entities.now) (role_seen bytes.now role.now)) sayings.role_seen }
+    ensures { Says result (s.role_said known.now (entities_seen entities.now)
+        (role_seen bytes.now role.now)) sayings.role_seen }
 {
     let name = resolved(alloc, bytes, known, entities, Kind::Role, &role.entity)?;
     Ok(RoleTerm {
@@ -180,7 +186,8 @@ pub(crate) fn role_term<'a>(
     entities: &'a Entities,
     role: &Role,
 ) -> Result<Term<'a>, SayFault>
-    ensures { Says result (s.role_term known.now (entities_seen entities.now) (role_seen bytes.now role.now)) term_seen }
+    ensures { Says result (s.role_term known.now (entities_seen entities.now)
+        (role_seen bytes.now role.now)) term_seen }
 {
     let role = role_said(alloc, bytes, known, entities, role)?;
     Ok(Term::Role(role))
@@ -194,7 +201,8 @@ pub(crate) fn class_term<'a>(
     entities: &'a Entities,
     class: &Class,
 ) -> Result<Term<'a>, SayFault>
-    ensures { Says result (s.class_term known.now (entities_seen entities.now) (class_seen bytes.now class.now)) term_seen }
+    ensures { Says result (s.class_term known.now (entities_seen entities.now)
+        (class_seen bytes.now class.now)) term_seen }
 {
     match class {
         Class::Everything(_) => Ok(Term::Everything),

@@ -1,7 +1,10 @@
+//! Groups in balanced parentheses.
+
 ghost use Rattle.std.specs.Prelude.{List, ℕ, ◌≡◌, ◌<◌, ◌+◌, ◌≤◌, ◌^◌, IfOk, IfSome, length, map};
 ghost use Rattle.std.specs.Option.{option_map};
 ghost use Rattle.owl_reader.specs.Tokens.{lexeme};
-ghost use Rattle.owl_reader.specs.Terms.{stops_at, is_open, is_close, is_equal, is_word, group_of, open_first, close_first, group_step, group_end};
+ghost use Rattle.owl_reader.specs.Terms.{stops_at, is_open, is_close, is_equal, is_word, group_of};
+ghost use Rattle.owl_reader.specs.Terms.{open_first, close_first, group_step, group_end};
 ghost use Rattle.owl_reader.specs.Views.{Gives};
 
 use crate::tokens::{Token, TokenKind};
@@ -75,7 +78,9 @@ pub(crate) fn is_word(kind: TokenKind) -> bool
 
 /// The tokens behind an opening parenthesis.
 pub(crate) fn open_first<'b>(tokens: &'b [Token]) -> Result<&'b [Token], Stop>
-    ensures given { (bytes : List ℕ) → Gives result (open_first (map (lexeme bytes) tokens.now)) (λ rest. map (lexeme bytes) rest.now) }
+    ensures given { (bytes : List ℕ)
+        → Gives result (open_first (map (lexeme bytes) tokens.now)) (λ rest.
+        map (lexeme bytes) rest.now) }
     ensures shorter { IfOk result (λ rest. length rest.now < length tokens.now) }
 {
     match tokens {
@@ -92,7 +97,9 @@ pub(crate) fn open_first<'b>(tokens: &'b [Token]) -> Result<&'b [Token], Stop>
 
 /// The tokens behind the opening parenthesis of a group, where a word before them heads one.
 pub(crate) fn group_of<'b>(tokens: &'b [Token]) -> Option<&'b [Token]>
-    ensures given { (bytes : List ℕ) → option_map (λ inside. map (lexeme bytes) inside.now) result ≡ group_of (map (lexeme bytes) tokens.now) }
+    ensures given { (bytes : List ℕ)
+        → option_map (λ inside. map (lexeme bytes) inside.now) result
+        ≡ group_of (map (lexeme bytes) tokens.now) }
     ensures shorter { IfSome result (λ inside. length inside.now < length tokens.now) }
 {
     match tokens {
@@ -103,7 +110,9 @@ pub(crate) fn group_of<'b>(tokens: &'b [Token]) -> Option<&'b [Token]>
 
 /// The place of a closing parenthesis, and the tokens behind it.
 pub(crate) fn close_first<'b>(tokens: &'b [Token]) -> Result<(usize, &'b [Token]), Stop>
-    ensures given { (bytes : List ℕ) → Gives result (close_first (map (lexeme bytes) tokens.now)) (λ end. (end.0, map (lexeme bytes) end.1.now)) }
+    ensures given { (bytes : List ℕ)
+        → Gives result (close_first (map (lexeme bytes) tokens.now)) (λ end.
+        (end.0, map (lexeme bytes) end.1.now)) }
     ensures shorter { IfOk result (λ end. length end.1.now < length tokens.now) }
 {
     match tokens {
@@ -139,7 +148,9 @@ fn group_step(depth: usize, kind: TokenKind) -> GroupStep
 
 /// The tokens behind a group, from behind its opening parenthesis on.
 pub(crate) fn group_end<'b>(tokens: &'b [Token]) -> Result<&'b [Token], Stop>
-    ensures given { (bytes : List ℕ) → Gives result (group_end 0 (map (lexeme bytes) tokens.now)) (λ rest. map (lexeme bytes) rest.now) }
+    ensures given { (bytes : List ℕ)
+        → Gives result (group_end 0 (map (lexeme bytes) tokens.now)) (λ rest.
+        map (lexeme bytes) rest.now) }
     ensures shorter { IfOk result (λ rest. length rest.now < length tokens.now) }
 {
     let mut depth = 0;

@@ -1,9 +1,15 @@
-ghost use Rattle.std.specs.Prelude.{◌≡◌, ◌≤◌, ◌++◌, ◌+◌, ◌==◌, [], IfOk, OnOk, length, drop, take, map};
+//! IRIs, prefixes, and the names of entities.
+
+ghost use Rattle.std.specs.Prelude.{◌≡◌, ◌≤◌, ◌++◌, ◌+◌, ◌==◌, [], IfOk, OnOk, length, drop, take};
+ghost use Rattle.std.specs.Prelude.{map};
 ghost use Rattle.std.specs.List.{prefix_len};
 ghost use Rattle.std.specs.Option.{option_map};
 ghost use Rattle.std.specs.Str.{bytes_eq};
 ghost use Rattle.owl_reader.specs.Tokens.{lexeme};
-ghost use Rattle.owl_reader.specs.Iris.{is_iri, is_no_colon, prefix_of, local_of, between_brackets, is_own_prefix, own_prefixes, with_prefix, with_prefixes, owl_iri, rdf_iri, rdfs_iri, xsd_iri, expanded, thing, is_thing, is_cut, behind_cut, name_of};
+ghost use Rattle.owl_reader.specs.Iris.{is_iri, is_no_colon, prefix_of, local_of, between_brackets};
+ghost use Rattle.owl_reader.specs.Iris.{is_own_prefix, own_prefixes, with_prefix, with_prefixes};
+ghost use Rattle.owl_reader.specs.Iris.{owl_iri, rdf_iri, rdfs_iri, xsd_iri, expanded, thing};
+ghost use Rattle.owl_reader.specs.Iris.{is_thing, is_cut, behind_cut, name_of};
 ghost use Rattle.owl_reader.specs.DocumentViews.{prefix_seen};
 
 use crate::tables::Table;
@@ -89,7 +95,8 @@ pub(crate) struct Prefix<'a> {
 
 /// Takes one more declaration into account.
 fn declare_prefix(known: &mut Table, declared: &Prefix<'_>) -> Result<(), AllocError>
-    ensures { OnOk result (known.new ≡ with_prefix known.old (declared.now.name.now, declared.now.iri.now)) }
+    ensures { OnOk result (known.new
+        ≡ with_prefix known.old (declared.now.name.now, declared.now.iri.now)) }
 {
     if is_own_prefix(declared.name) {
         return Ok(());
@@ -118,7 +125,7 @@ pub(crate) fn is_prefix_word(text: &[u8]) -> bool
     colon(text) + 1 == text.len()
 }
 
-/// Whether the bytes of the two parts, one behind the other, are those of the whole.
+/// Whether the bytes of the two disjoint, one behind the other, are those of the whole.
 fn joins(first: &[u8], second: &[u8], whole: &[u8]) -> bool
     ensures { result ≡ bytes_eq (first.now ++ second.now) whole.now }
 {
@@ -147,7 +154,7 @@ pub(crate) fn is_thing(bytes: &[u8], known: &Table, token: &Token) -> bool
     }
 }
 
-/// The bytes of the two parts, one behind the other.
+/// The bytes of the two disjoint, one behind the other.
 fn joined(alloc: Global, first: &[u8], second: &[u8]) -> Result<Vec<u8>, AllocError>
     ensures { IfOk result (λ whole. whole.items ≡ first.now ++ second.now) }
 {
@@ -163,7 +170,8 @@ pub(crate) fn expanded(
     known: &Table,
     token: &Token,
 ) -> Result<Option<Vec<u8>>, AllocError>
-    ensures { IfOk result (λ iri. option_map (λ bytes. bytes.items) iri ≡ expanded known.now (lexeme bytes.now token.now)) }
+    ensures { IfOk result (λ iri. option_map (λ bytes. bytes.items) iri
+        ≡ expanded known.now (lexeme bytes.now token.now)) }
 {
     if is_iri(token.kind) {
         let iri = Vec::from_slice(alloc, between_brackets(text_of(bytes, token)))?;

@@ -1,9 +1,12 @@
+//! The items of a document.
+
 ghost use Rattle.std.specs.Prelude.{List, ℕ, ◌≡◌, ◌<◌, ◌≤◌, IfOk, IfSome, length, map};
 ghost use Rattle.std.specs.Option.{option_map};
 ghost use Rattle.owl_reader.specs.Tokens.{lexeme};
 ghost use Rattle.owl_reader.specs.Terms as t;
 ghost use Rattle.owl_reader.specs.Items as i;
-ghost use Rattle.owl_reader.specs.Views.{Gives, IsStop, first_seen, room_behind, entity_seen, role_seen, class_seen};
+ghost use Rattle.owl_reader.specs.Views.{Gives, IsStop, first_seen, room_behind, entity_seen};
+ghost use Rattle.owl_reader.specs.Views.{role_seen, class_seen};
 ghost use Rattle.owl_reader.specs.ItemViews.{content_seen, axiom_seen, declaration_seen, item_seen};
 
 use crate::groups::{Stop, close_first, group_end, group_of, is_close, is_word, open_first};
@@ -90,7 +93,9 @@ fn roles_listed<'b>(
     known: &Table,
     tokens: &'b [Token],
 ) -> Result<(Vec<Role>, &'b [Token]), Stop>
-    ensures given { Gives result (i.up_to_close (t.role_first known.now) (map (lexeme bytes.now) tokens.now)) (λ found. (map (role_seen bytes.now) found.0.items, map (lexeme bytes.now) found.1.now)) }
+    ensures given { Gives result (i.up_to_close (t.role_first known.now)
+        (map (lexeme bytes.now) tokens.now)) (λ found.
+        (map (role_seen bytes.now) found.0.items, map (lexeme bytes.now) found.1.now)) }
     ensures shorter { IfOk result (λ found. length found.1.now ≤ length tokens.now) }
 {
     let mut roles = Vec::new(alloc);
@@ -114,7 +119,9 @@ fn classes_listed<'b>(
     known: &Table,
     tokens: &'b [Token],
 ) -> Result<(Vec<Class>, &'b [Token]), Stop>
-    ensures given { Gives result (i.up_to_close (t.basic_first known.now) (map (lexeme bytes.now) tokens.now)) (λ found. (map (class_seen bytes.now) found.0.items, map (lexeme bytes.now) found.1.now)) }
+    ensures given { Gives result (i.up_to_close (t.basic_first known.now)
+        (map (lexeme bytes.now) tokens.now)) (λ found.
+        (map (class_seen bytes.now) found.0.items, map (lexeme bytes.now) found.1.now)) }
     ensures shorter { IfOk result (λ found. length found.1.now ≤ length tokens.now) }
 {
     let mut classes = Vec::new(alloc);
@@ -139,7 +146,8 @@ fn is_annotation(head: Head) -> bool
 
 /// The tokens behind `Annotation(`.
 fn annotation_first<'b>(bytes: &[u8], tokens: &'b [Token]) -> Option<&'b [Token]>
-    ensures given { option_map (λ inside. map (lexeme bytes.now) inside.now) result ≡ i.annotation_first (map (lexeme bytes.now) tokens.now) }
+    ensures given { option_map (λ inside. map (lexeme bytes.now) inside.now) result
+        ≡ i.annotation_first (map (lexeme bytes.now) tokens.now) }
     ensures shorter { IfSome result (λ inside. length inside.now < length tokens.now) }
 {
     match tokens {
@@ -156,7 +164,8 @@ fn annotation_first<'b>(bytes: &[u8], tokens: &'b [Token]) -> Option<&'b [Token]
 
 /// The tokens behind the annotations that they begin with.
 fn behind_annotations<'b>(bytes: &[u8], tokens: &'b [Token]) -> Result<&'b [Token], Stop>
-    ensures given { Gives result (i.behind_annotations (map (lexeme bytes.now) tokens.now)) (λ rest. map (lexeme bytes.now) rest.now) }
+    ensures given { Gives result (i.behind_annotations (map (lexeme bytes.now) tokens.now)) (λ rest.
+        map (lexeme bytes.now) rest.now) }
     ensures shorter { IfOk result (λ rest. length rest.now ≤ length tokens.now) }
 {
     let mut rest = tokens;
@@ -178,7 +187,8 @@ fn one_role<'b>(
     known: &Table,
     tokens: &'b [Token],
 ) -> Result<(Content, &'b [Token]), Stop>
-    ensures given { Gives result (i.one_role known.now (map (lexeme bytes.now) tokens.now)) (λ found. (content_seen bytes.now found.0, map (lexeme bytes.now) found.1.now)) }
+    ensures given { Gives result (i.one_role known.now (map (lexeme bytes.now) tokens.now))
+        (λ found. (content_seen bytes.now found.0, map (lexeme bytes.now) found.1.now)) }
     ensures shorter { IfOk result (λ found. length found.1.now ≤ length tokens.now) }
 {
     let (role, rest) = role_first(bytes, known, tokens)?;
@@ -194,7 +204,8 @@ fn two_roles<'b>(
     known: &Table,
     tokens: &'b [Token],
 ) -> Result<(Content, &'b [Token]), Stop>
-    ensures given { Gives result (i.two_roles known.now (map (lexeme bytes.now) tokens.now)) (λ found. (content_seen bytes.now found.0, map (lexeme bytes.now) found.1.now)) }
+    ensures given { Gives result (i.two_roles known.now (map (lexeme bytes.now) tokens.now))
+        (λ found. (content_seen bytes.now found.0, map (lexeme bytes.now) found.1.now)) }
     ensures shorter { IfOk result (λ found. length found.1.now ≤ length tokens.now) }
 {
     let (left, rest) = role_first(bytes, known, tokens)?;
@@ -221,7 +232,8 @@ fn several_roles<'b>(
     known: &Table,
     tokens: &'b [Token],
 ) -> Result<(Content, &'b [Token]), Stop>
-    ensures given { Gives result (i.several_roles known.now (map (lexeme bytes.now) tokens.now)) (λ found. (content_seen bytes.now found.0, map (lexeme bytes.now) found.1.now)) }
+    ensures given { Gives result (i.several_roles known.now (map (lexeme bytes.now) tokens.now))
+        (λ found. (content_seen bytes.now found.0, map (lexeme bytes.now) found.1.now)) }
     ensures shorter { IfOk result (λ found. length found.1.now ≤ length tokens.now) }
 {
     let (roles, rest) = roles_listed(alloc, bytes, known, tokens)?;
@@ -239,7 +251,8 @@ fn role_and_class<'b>(
     known: &Table,
     tokens: &'b [Token],
 ) -> Result<(Content, &'b [Token]), Stop>
-    ensures given { Gives result (i.role_and_class known.now (map (lexeme bytes.now) tokens.now)) (λ found. (content_seen bytes.now found.0, map (lexeme bytes.now) found.1.now)) }
+    ensures given { Gives result (i.role_and_class known.now (map (lexeme bytes.now) tokens.now))
+        (λ found. (content_seen bytes.now found.0, map (lexeme bytes.now) found.1.now)) }
     ensures shorter { IfOk result (λ found. length found.1.now ≤ length tokens.now) }
 {
     let (role, rest) = role_first(bytes, known, tokens)?;
@@ -256,7 +269,8 @@ fn two_classes<'b>(
     known: &Table,
     tokens: &'b [Token],
 ) -> Result<(Content, &'b [Token]), Stop>
-    ensures given { Gives result (i.two_classes known.now (map (lexeme bytes.now) tokens.now)) (λ found. (content_seen bytes.now found.0, map (lexeme bytes.now) found.1.now)) }
+    ensures given { Gives result (i.two_classes known.now (map (lexeme bytes.now) tokens.now))
+        (λ found. (content_seen bytes.now found.0, map (lexeme bytes.now) found.1.now)) }
     ensures shorter { IfOk result (λ found. length found.1.now ≤ length tokens.now) }
 {
     let (left, rest) = basic_first(bytes, known, tokens)?;
@@ -273,7 +287,8 @@ fn several_classes<'b>(
     known: &Table,
     tokens: &'b [Token],
 ) -> Result<(Content, &'b [Token]), Stop>
-    ensures given { Gives result (i.several_classes known.now (map (lexeme bytes.now) tokens.now)) (λ found. (content_seen bytes.now found.0, map (lexeme bytes.now) found.1.now)) }
+    ensures given { Gives result (i.several_classes known.now (map (lexeme bytes.now) tokens.now))
+        (λ found. (content_seen bytes.now found.0, map (lexeme bytes.now) found.1.now)) }
     ensures shorter { IfOk result (λ found. length found.1.now ≤ length tokens.now) }
 {
     let (classes, rest) = classes_listed(alloc, bytes, known, tokens)?;
@@ -292,7 +307,9 @@ fn content_first<'b>(
     shape: Shape,
     tokens: &'b [Token],
 ) -> Result<(Content, &'b [Token]), Stop>
-    ensures given { Gives result (i.content_first known.now shape (map (lexeme bytes.now) tokens.now)) (λ found. (content_seen bytes.now found.0, map (lexeme bytes.now) found.1.now)) }
+    ensures given { Gives result (i.content_first known.now shape
+        (map (lexeme bytes.now) tokens.now)) (λ found.
+        (content_seen bytes.now found.0, map (lexeme bytes.now) found.1.now)) }
     ensures shorter { IfOk result (λ found. length found.1.now ≤ length tokens.now) }
 {
     match shape {
@@ -307,7 +324,8 @@ fn content_first<'b>(
 
 /// The item that a declaration is, by the place of its closing parenthesis.
 fn declared_item(held: Declaration, close: usize) -> Item
-    ensures { (bytes : List ℕ) → item_seen bytes result ≡ i.declared_item (declaration_seen bytes held) close }
+    ensures { (bytes : List ℕ) → item_seen bytes result
+        ≡ i.declared_item (declaration_seen bytes held) close }
 {
     match held {
         Declaration::OfEntity(kind, entity) => Item::Declares(kind, entity, close),
@@ -323,7 +341,9 @@ fn entity_declared<'b>(
     kind: Kind,
     inside: &'b [Token],
 ) -> Result<(Declaration, &'b [Token]), Stop>
-    ensures given { Gives result (i.entity_declared known.now kind (map (lexeme bytes.now) inside.now)) (λ found. (declaration_seen bytes.now found.0, map (lexeme bytes.now) found.1.now)) }
+    ensures given { Gives result (i.entity_declared known.now kind
+        (map (lexeme bytes.now) inside.now)) (λ found.
+        (declaration_seen bytes.now found.0, map (lexeme bytes.now) found.1.now)) }
     ensures shorter { IfOk result (λ found. length found.1.now ≤ length inside.now) }
 {
     let (entity, rest) = entity_first(bytes, known, inside)?;
@@ -337,7 +357,8 @@ fn declaration_from<'b>(
     known: &Table,
     first: First<'b>,
 ) -> Result<(Declaration, &'b [Token]), Stop>
-    ensures given { Gives result (i.declaration_from known.now (first_seen bytes.now first.entry)) (λ found. (declaration_seen bytes.now found.0, map (lexeme bytes.now) found.1.now)) }
+    ensures given { Gives result (i.declaration_from known.now (first_seen bytes.now first.entry))
+        (λ found. (declaration_seen bytes.now found.0, map (lexeme bytes.now) found.1.now)) }
     ensures shorter { IfOk result (λ found. length found.1.now ≤ room_behind first.entry) }
 {
     match first {
@@ -375,7 +396,8 @@ fn declaration_item<'b>(
     known: &Table,
     inside: &'b [Token],
 ) -> Result<(Item, &'b [Token]), Stop>
-    ensures given { Gives result (i.declaration_item known.now (map (lexeme bytes.now) inside.now)) (λ found. (item_seen bytes.now found.0, map (lexeme bytes.now) found.1.now)) }
+    ensures given { Gives result (i.declaration_item known.now (map (lexeme bytes.now) inside.now))
+        (λ found. (item_seen bytes.now found.0, map (lexeme bytes.now) found.1.now)) }
     ensures shorter { IfOk result (λ found. length found.1.now ≤ length inside.now) }
 {
     let tokens = behind_annotations(bytes, inside)?;
@@ -395,7 +417,9 @@ fn axiom_item<'b>(
     shape: Shape,
     inside: &'b [Token],
 ) -> Result<(Item, &'b [Token]), Stop>
-    ensures given { Gives result (i.axiom_item known.now head shape (map (lexeme bytes.now) inside.now)) (λ found. (item_seen bytes.now found.0, map (lexeme bytes.now) found.1.now)) }
+    ensures given { Gives result (i.axiom_item known.now head shape
+        (map (lexeme bytes.now) inside.now)) (λ found.
+        (item_seen bytes.now found.0, map (lexeme bytes.now) found.1.now)) }
     ensures shorter { IfOk result (λ found. length found.1.now ≤ length inside.now) }
 {
     let tokens = behind_annotations(bytes, inside)?;
@@ -449,7 +473,9 @@ fn item_from<'b>(
     token: &Token,
     inside: &'b [Token],
 ) -> Result<(Item, &'b [Token]), Stop>
-    ensures given { Gives result (i.item_headed known.now (lexeme bytes.now token.now) (map (lexeme bytes.now) inside.now)) (λ found. (item_seen bytes.now found.0, map (lexeme bytes.now) found.1.now)) }
+    ensures given { Gives result (i.item_headed known.now (lexeme bytes.now token.now)
+        (map (lexeme bytes.now) inside.now)) (λ found.
+        (item_seen bytes.now found.0, map (lexeme bytes.now) found.1.now)) }
     ensures shorter { IfOk result (λ found. length found.1.now ≤ length inside.now) }
 {
     let head = head_of(text_of(bytes, token));
@@ -475,7 +501,8 @@ pub(crate) fn item_first<'b>(
     known: &Table,
     tokens: &'b [Token],
 ) -> Result<(Item, &'b [Token]), Stop>
-    ensures given { Gives result (i.item_first known.now (map (lexeme bytes.now) tokens.now)) (λ found. (item_seen bytes.now found.0, map (lexeme bytes.now) found.1.now)) }
+    ensures given { Gives result (i.item_first known.now (map (lexeme bytes.now) tokens.now))
+        (λ found. (item_seen bytes.now found.0, map (lexeme bytes.now) found.1.now)) }
     ensures shorter { IfOk result (λ found. length found.1.now < length tokens.now) }
 {
     match tokens {

@@ -1,4 +1,7 @@
-ghost use Rattle.std.specs.Prelude.{List, ℕ, ◌≡◌, ◌≤◌, Ok, None, Some, IfOk, OnOk, map, length, take};
+//! The ontology of a whole document.
+
+ghost use Rattle.std.specs.Prelude.{List, ℕ, ◌≡◌, ◌≤◌, Ok, None, Some, IfOk, OnOk, map, length};
+ghost use Rattle.std.specs.Prelude.{take};
 ghost use Rattle.owl_reader.specs.Tokens.{lexeme, lexed};
 ghost use Rattle.owl_reader.specs.Documents as d;
 ghost use Rattle.owl_reader.specs.DocumentViews.{document_seen};
@@ -44,7 +47,8 @@ pub enum OwlKind {
 /// Why a document gives no ontology.
 #[derive(PartialEq, Eq, Debug, Drop)]
 pub enum OwlFault {
-    /// The first fault, with its line, counted from 1; a text that is too long is at fault at line 0.
+    /// The first fault, with its line, counted from 1; a text that is too long is at fault at line
+    /// 0.
     Bad { line: u64, kind: OwlKind },
     /// There is no memory.
     Memory,
@@ -111,7 +115,8 @@ fn cut<'a>(text: &'a [u8], most: usize) -> &'a [u8]
 
 /// The fault of a token that isn't taken.
 fn unsupported(alloc: Global, text: &[u8], token: &Token) -> OwlFault
-    ensures { reading.Faults result (reading.line_of text.now token.now.start) (take 64 (lexeme text.now token.now).text) }
+    ensures { reading.Faults result (reading.line_of text.now token.now.start)
+        (take 64 (lexeme text.now token.now).text) }
 {
     let word = text_of(text, token);
     match Name::new(alloc, cut(word, TEXT_LIMIT)) {
@@ -146,7 +151,8 @@ fn add_items(
     vocabulary: &mut Vocabulary,
     items: &[Item],
 ) -> Result<(), SayFault>
-    ensures { Becomes result (reading.items_say known.now (vocabulary_seen vocabulary.old) (map (item_seen text.now) items.now)) vocabulary.new.ontology }
+    ensures { Becomes result (reading.items_say known.now (vocabulary_seen vocabulary.old)
+        (map (item_seen text.now) items.now)) vocabulary.new.ontology }
 {
     match declare_all(alloc, text, known, vocabulary, items) {
         Ok(()) => add_axioms(
@@ -168,7 +174,8 @@ fn items_say(
     known: &Table,
     items: &[Item],
 ) -> Result<Ontology, SayFault>
-    ensures { Says result (reading.items_say known.now reading.no_vocabulary (map (item_seen text.now) items.now)) (λ ontology. ontology) }
+    ensures { Says result (reading.items_say known.now reading.no_vocabulary
+        (map (item_seen text.now) items.now)) (λ ontology. ontology) }
 {
     let mut vocabulary = no_vocabulary(alloc);
     match add_items(alloc, text, known, &mut vocabulary, items) {
@@ -197,7 +204,9 @@ fn taken_says(
     known: &Table,
     items: &[Item],
 ) -> Result<Ontology, OwlFault>
-    ensures { reading.Tells result (reading.taken_says text.now (record { known = known.now; items = map (item_seen text.now) items.now }) (first_of in_item (map (item_seen text.now) items.now))) }
+    ensures { reading.Tells result (reading.taken_says text.now
+        (record { known = known.now; items = map (item_seen text.now) items.now })
+        (first_of in_item (map (item_seen text.now) items.now))) }
 {
     match first_refused(items) {
         Some(token) => Err(unsupported(alloc, text, &token)),
@@ -210,7 +219,8 @@ fn taken_says(
 
 /// The ontology of a document, or its first fault behind those of its syntax.
 fn document_says(alloc: Global, text: &[u8], document: &Document) -> Result<Ontology, OwlFault>
-    ensures { reading.Tells result (reading.read_says text.now (Ok (document_seen text.now document.now))) }
+    ensures { reading.Tells result (reading.read_says text.now
+        (Ok (document_seen text.now document.now))) }
 {
     taken_says(alloc, text, &document.known, document.items.as_slice())
 }

@@ -1,3 +1,5 @@
+//! The first token that is not taken.
+
 ghost use Rattle.std.specs.Prelude.{List, ℕ, ◌≡◌, map};
 ghost use Rattle.std.specs.Option.{option_map};
 ghost use Rattle.owl_reader.specs.Tokens.{lexeme};
@@ -10,7 +12,8 @@ use crate::terms::{Class, Entity, Role};
 use crate::tokens::Token;
 
 fn or_else(first: Option<Token>, later: Option<Token>) -> Option<Token>
-    ensures { (bytes : List ℕ) → option_map (lexeme bytes) result ≡ refusals.or_else (option_map (lexeme bytes) first) (option_map (lexeme bytes) later) }
+    ensures { (bytes : List ℕ) → option_map (lexeme bytes) result
+        ≡ refusals.or_else (option_map (lexeme bytes) first) (option_map (lexeme bytes) later) }
 {
     match first {
         Some(token) => Some(token),
@@ -19,7 +22,8 @@ fn or_else(first: Option<Token>, later: Option<Token>) -> Option<Token>
 }
 
 fn in_entity(entity: &Entity) -> Option<Token>
-    ensures { (bytes : List ℕ) → option_map (lexeme bytes) result ≡ refusals.in_entity (entity_seen bytes entity.now) }
+    ensures { (bytes : List ℕ) → option_map (lexeme bytes) result
+        ≡ refusals.in_entity (entity_seen bytes entity.now) }
 {
     match entity {
         Entity::Named(_) => None,
@@ -28,13 +32,15 @@ fn in_entity(entity: &Entity) -> Option<Token>
 }
 
 fn in_role(role: &Role) -> Option<Token>
-    ensures { (bytes : List ℕ) → option_map (lexeme bytes) result ≡ refusals.in_role (role_seen bytes role.now) }
+    ensures { (bytes : List ℕ) → option_map (lexeme bytes) result
+        ≡ refusals.in_role (role_seen bytes role.now) }
 {
     in_entity(&role.entity)
 }
 
 fn in_class(class: &Class) -> Option<Token>
-    ensures { (bytes : List ℕ) → option_map (lexeme bytes) result ≡ refusals.in_class (class_seen bytes class.now) }
+    ensures { (bytes : List ℕ) → option_map (lexeme bytes) result
+        ≡ refusals.in_class (class_seen bytes class.now) }
 {
     match class {
         Class::Everything(_) => None,
@@ -46,7 +52,8 @@ fn in_class(class: &Class) -> Option<Token>
 
 /// The first token in the roles that isn't taken.
 fn in_roles(roles: &[Role]) -> Option<Token>
-    ensures { (bytes : List ℕ) → option_map (lexeme bytes) result ≡ refusals.first_of refusals.in_role (map (role_seen bytes) roles.now) }
+    ensures { (bytes : List ℕ) → option_map (lexeme bytes) result
+        ≡ refusals.first_of refusals.in_role (map (role_seen bytes) roles.now) }
 {
     let mut place = 0;
     while place < roles.len() {
@@ -61,7 +68,8 @@ fn in_roles(roles: &[Role]) -> Option<Token>
 
 /// The first token in the class expressions that isn't taken.
 fn in_classes(classes: &[Class]) -> Option<Token>
-    ensures { (bytes : List ℕ) → option_map (lexeme bytes) result ≡ refusals.first_of refusals.in_class (map (class_seen bytes) classes.now) }
+    ensures { (bytes : List ℕ) → option_map (lexeme bytes) result
+        ≡ refusals.first_of refusals.in_class (map (class_seen bytes) classes.now) }
 {
     let mut place = 0;
     while place < classes.len() {
@@ -75,7 +83,8 @@ fn in_classes(classes: &[Class]) -> Option<Token>
 }
 
 fn in_axiom(axiom: &Axiom) -> Option<Token>
-    ensures { (bytes : List ℕ) → option_map (lexeme bytes) result ≡ refusals.in_axiom (axiom_seen bytes axiom.now) }
+    ensures { (bytes : List ℕ) → option_map (lexeme bytes) result
+        ≡ refusals.in_axiom (axiom_seen bytes axiom.now) }
 {
     or_else(
         in_roles(axiom.roles.as_slice()),
@@ -84,7 +93,8 @@ fn in_axiom(axiom: &Axiom) -> Option<Token>
 }
 
 fn in_item(item: &Item) -> Option<Token>
-    ensures { (bytes : List ℕ) → option_map (lexeme bytes) result ≡ refusals.in_item (item_seen bytes item.now) }
+    ensures { (bytes : List ℕ) → option_map (lexeme bytes) result
+        ≡ refusals.in_item (item_seen bytes item.now) }
 {
     match item {
         Item::Silent => None,
@@ -96,7 +106,8 @@ fn in_item(item: &Item) -> Option<Token>
 
 /// The first token that isn't taken.
 pub(crate) fn first_refused(items: &[Item]) -> Option<Token>
-    ensures { (bytes : List ℕ) → option_map (lexeme bytes) result ≡ refusals.first_of refusals.in_item (map (item_seen bytes) items.now) }
+    ensures { (bytes : List ℕ) → option_map (lexeme bytes) result
+        ≡ refusals.first_of refusals.in_item (map (item_seen bytes) items.now) }
 {
     let mut place = 0;
     while place < items.len() {

@@ -1,3 +1,5 @@
+//! Texts under keys.
+
 ghost use Rattle.std.specs.Prelude.{◌≡◌, [], OnOk};
 ghost use Rattle.std.specs.Option.{option_map};
 ghost use Rattle.owl_reader.specs.Tables.{looked_up, put};

@@ -1,8 +1,11 @@
+//! Entities, roles and classes, as they are written.
+
 ghost use Rattle.std.specs.Prelude.{List, ℕ, ◌≡◌, ◌<◌, ◌≤◌, IfOk, length, map};
 ghost use Rattle.std.specs.Option.{option_map};
 ghost use Rattle.owl_reader.specs.Tokens.{lexeme};
 ghost use Rattle.owl_reader.specs.Terms as t;
-ghost use Rattle.owl_reader.specs.Views.{Gives, first_seen, room_behind, entity_seen, role_seen, class_seen};
+ghost use Rattle.owl_reader.specs.Views.{Gives, first_seen, room_behind, entity_seen, role_seen};
+ghost use Rattle.owl_reader.specs.Views.{class_seen};
 
 use crate::groups::{Stop, close_first, group_end, group_of};
 use crate::iris::is_thing;
@@ -49,7 +52,8 @@ fn has_colon(text: &[u8]) -> bool
 /// What a term begins with.
 #[tactic(auto, unfolding(crate::specs::Terms::term_first))]
 pub(crate) fn term_first<'b>(bytes: &[u8], tokens: &'b [Token]) -> Result<First<'b>, Stop>
-    ensures given { Gives result (t.term_first (map (lexeme bytes.now) tokens.now)) (first_seen bytes.now) }
+    ensures given { Gives result (t.term_first (map (lexeme bytes.now) tokens.now))
+        (first_seen bytes.now) }
     ensures shorter { IfOk result (λ first. room_behind first < length tokens.now) }
 {
     match tokens {
@@ -73,7 +77,9 @@ pub(crate) fn term_first<'b>(bytes: &[u8], tokens: &'b [Token]) -> Result<First<
 
 /// The tokens behind any term.
 fn term_end<'b>(first: First<'b>) -> Result<&'b [Token], Stop>
-    ensures given { (bytes : List ℕ) → Gives result (t.term_end (first_seen bytes first.entry)) (λ rest. map (lexeme bytes) rest.now) }
+    ensures given { (bytes : List ℕ)
+        → Gives result (t.term_end (first_seen bytes first.entry)) (λ rest.
+        map (lexeme bytes) rest.now) }
     ensures shorter { IfOk result (λ rest. length rest.now ≤ room_behind first.entry) }
 {
     match first {
@@ -84,7 +90,8 @@ fn term_end<'b>(first: First<'b>) -> Result<&'b [Token], Stop>
 
 /// The tokens behind any term but owl:Thing.
 fn filler_end<'b>(bytes: &[u8], known: &Table, first: First<'b>) -> Result<&'b [Token], Stop>
-    ensures given { Gives result (t.filler_end known.now (first_seen bytes.now first.entry)) (λ rest. map (lexeme bytes.now) rest.now) }
+    ensures given { Gives result (t.filler_end known.now (first_seen bytes.now first.entry))
+        (λ rest. map (lexeme bytes.now) rest.now) }
     ensures shorter { IfOk result (λ rest. length rest.now ≤ room_behind first.entry) }
 {
     match first {
@@ -102,7 +109,8 @@ fn filler_end<'b>(bytes: &[u8], known: &Table, first: First<'b>) -> Result<&'b [
 /// The tokens behind a qualified expression, from behind `ObjectSomeValuesFrom(` on.
 #[tactic(auto, unfolding(crate::specs::Terms::qualified_end))]
 fn qualified_end<'b>(bytes: &[u8], known: &Table, inside: &'b [Token]) -> Result<&'b [Token], Stop>
-    ensures given { Gives result (t.qualified_end known.now (map (lexeme bytes.now) inside.now)) (λ rest. map (lexeme bytes.now) rest.now) }
+    ensures given { Gives result (t.qualified_end known.now (map (lexeme bytes.now) inside.now))
+        (λ rest. map (lexeme bytes.now) rest.now) }
     ensures shorter { IfOk result (λ rest. length rest.now ≤ length inside.now) }
 {
     let role = term_first(bytes, inside)?;
@@ -121,7 +129,8 @@ pub(crate) fn refused_end<'b>(
     token: &Token,
     inside: &'b [Token],
 ) -> Result<&'b [Token], Stop>
-    ensures given { Gives result (t.refused_end known.now head (lexeme bytes.now token.now) (map (lexeme bytes.now) inside.now)) (λ rest. map (lexeme bytes.now) rest.now) }
+    ensures given { Gives result (t.refused_end known.now head (lexeme bytes.now token.now)
+        (map (lexeme bytes.now) inside.now)) (λ rest. map (lexeme bytes.now) rest.now) }
     ensures shorter { IfOk result (λ rest. length rest.now ≤ length inside.now) }
 {
     match head {
@@ -137,7 +146,8 @@ fn entity_from<'b>(
     known: &Table,
     first: First<'b>,
 ) -> Result<(Entity, &'b [Token]), Stop>
-    ensures given { Gives result (t.entity_from known.now (first_seen bytes.now first.entry)) (λ found. (entity_seen bytes.now found.0, map (lexeme bytes.now) found.1.now)) }
+    ensures given { Gives result (t.entity_from known.now (first_seen bytes.now first.entry))
+        (λ found. (entity_seen bytes.now found.0, map (lexeme bytes.now) found.1.now)) }
     ensures shorter { IfOk result (λ found. length found.1.now ≤ room_behind first.entry) }
 {
     match first {
@@ -162,7 +172,8 @@ pub(crate) fn entity_first<'b>(
     known: &Table,
     tokens: &'b [Token],
 ) -> Result<(Entity, &'b [Token]), Stop>
-    ensures given { Gives result (t.entity_first known.now (map (lexeme bytes.now) tokens.now)) (λ found. (entity_seen bytes.now found.0, map (lexeme bytes.now) found.1.now)) }
+    ensures given { Gives result (t.entity_first known.now (map (lexeme bytes.now) tokens.now))
+        (λ found. (entity_seen bytes.now found.0, map (lexeme bytes.now) found.1.now)) }
     ensures shorter { IfOk result (λ found. length found.1.now < length tokens.now) }
 {
     let first = term_first(bytes, tokens)?;
@@ -175,7 +186,8 @@ fn inverse_from<'b>(
     known: &Table,
     inside: &'b [Token],
 ) -> Result<(Role, &'b [Token]), Stop>
-    ensures given { Gives result (t.inverse_from known.now (map (lexeme bytes.now) inside.now)) (λ found. (role_seen bytes.now found.0, map (lexeme bytes.now) found.1.now)) }
+    ensures given { Gives result (t.inverse_from known.now (map (lexeme bytes.now) inside.now))
+        (λ found. (role_seen bytes.now found.0, map (lexeme bytes.now) found.1.now)) }
     ensures shorter { IfOk result (λ found. length found.1.now ≤ length inside.now) }
 {
     let (entity, rest) = entity_first(bytes, known, inside)?;
@@ -195,7 +207,8 @@ fn plain_role<'b>(
     known: &Table,
     first: First<'b>,
 ) -> Result<(Role, &'b [Token]), Stop>
-    ensures given { Gives result (t.plain_role known.now (first_seen bytes.now first.entry)) (λ found. (role_seen bytes.now found.0, map (lexeme bytes.now) found.1.now)) }
+    ensures given { Gives result (t.plain_role known.now (first_seen bytes.now first.entry))
+        (λ found. (role_seen bytes.now found.0, map (lexeme bytes.now) found.1.now)) }
     ensures shorter { IfOk result (λ found. length found.1.now ≤ room_behind first.entry) }
 {
     let (entity, rest) = entity_from(bytes, known, first)?;
@@ -215,7 +228,8 @@ pub(crate) fn role_first<'b>(
     known: &Table,
     tokens: &'b [Token],
 ) -> Result<(Role, &'b [Token]), Stop>
-    ensures given { Gives result (t.role_first known.now (map (lexeme bytes.now) tokens.now)) (λ found. (role_seen bytes.now found.0, map (lexeme bytes.now) found.1.now)) }
+    ensures given { Gives result (t.role_first known.now (map (lexeme bytes.now) tokens.now))
+        (λ found. (role_seen bytes.now found.0, map (lexeme bytes.now) found.1.now)) }
     ensures shorter { IfOk result (λ found. length found.1.now < length tokens.now) }
 {
     match term_first(bytes, tokens)? {
@@ -230,7 +244,12 @@ fn filler_from<'b>(
     known: &Table,
     first: First<'b>,
 ) -> Result<(Option<Entity>, &'b [Token]), Stop>
-    ensures given { Gives result (t.filler_from known.now (first_seen bytes.now first.entry)) (λ found. (option_map (entity_seen bytes.now) found.0, map (lexeme bytes.now) found.1.now)) }
+    ensures given { Gives result (t.filler_from known.now (first_seen bytes.now first.entry))
+        (λ found. (
+          option_map (entity_seen bytes.now) found.0,
+          map (lexeme bytes.now)
+              found.1.now,
+        )) }
     ensures shorter { IfOk result (λ found. length found.1.now ≤ room_behind first.entry) }
 {
     match first {
@@ -255,7 +274,12 @@ fn filler_first<'b>(
     known: &Table,
     tokens: &'b [Token],
 ) -> Result<(Option<Entity>, &'b [Token]), Stop>
-    ensures given { Gives result (t.filler_first known.now (map (lexeme bytes.now) tokens.now)) (λ found. (option_map (entity_seen bytes.now) found.0, map (lexeme bytes.now) found.1.now)) }
+    ensures given { Gives result (t.filler_first known.now (map (lexeme bytes.now) tokens.now))
+        (λ found. (
+          option_map (entity_seen bytes.now) found.0,
+          map (lexeme bytes.now)
+              found.1.now,
+        )) }
     ensures shorter { IfOk result (λ found. length found.1.now < length tokens.now) }
 {
     let first = term_first(bytes, tokens)?;
@@ -264,7 +288,9 @@ fn filler_first<'b>(
 
 /// What has a partner by a role, in a class or anywhere.
 fn existing(token: &Token, role: Role, filler: Option<Entity>) -> Class
-    ensures { (bytes : List ℕ) → class_seen bytes result ≡ t.existing (lexeme bytes token.now) (role_seen bytes role) (option_map (entity_seen bytes) filler) }
+    ensures { (bytes : List ℕ) → class_seen bytes result
+        ≡ t.existing (lexeme bytes token.now) (role_seen bytes role)
+        (option_map (entity_seen bytes) filler) }
 {
     match filler {
         None => Class::SomeOf(role),
@@ -279,7 +305,9 @@ fn existing_from<'b>(
     token: &Token,
     inside: &'b [Token],
 ) -> Result<(Class, &'b [Token]), Stop>
-    ensures given { Gives result (t.existing_from known.now (lexeme bytes.now token.now) (map (lexeme bytes.now) inside.now)) (λ found. (class_seen bytes.now found.0, map (lexeme bytes.now) found.1.now)) }
+    ensures given { Gives result (t.existing_from known.now (lexeme bytes.now token.now)
+        (map (lexeme bytes.now) inside.now)) (λ found.
+        (class_seen bytes.now found.0, map (lexeme bytes.now) found.1.now)) }
     ensures shorter { IfOk result (λ found. length found.1.now ≤ length inside.now) }
 {
     let (role, rest) = role_first(bytes, known, inside)?;
@@ -294,7 +322,8 @@ fn plain_class<'b>(
     known: &Table,
     first: First<'b>,
 ) -> Result<(Class, &'b [Token]), Stop>
-    ensures given { Gives result (t.plain_class known.now (first_seen bytes.now first.entry)) (λ found. (class_seen bytes.now found.0, map (lexeme bytes.now) found.1.now)) }
+    ensures given { Gives result (t.plain_class known.now (first_seen bytes.now first.entry))
+        (λ found. (class_seen bytes.now found.0, map (lexeme bytes.now) found.1.now)) }
     ensures shorter { IfOk result (λ found. length found.1.now ≤ room_behind first.entry) }
 {
     match first {
@@ -319,7 +348,8 @@ pub(crate) fn class_first<'b>(
     known: &Table,
     tokens: &'b [Token],
 ) -> Result<(Class, &'b [Token]), Stop>
-    ensures given { Gives result (t.class_first known.now (map (lexeme bytes.now) tokens.now)) (λ found. (class_seen bytes.now found.0, map (lexeme bytes.now) found.1.now)) }
+    ensures given { Gives result (t.class_first known.now (map (lexeme bytes.now) tokens.now))
+        (λ found. (class_seen bytes.now found.0, map (lexeme bytes.now) found.1.now)) }
     ensures shorter { IfOk result (λ found. length found.1.now < length tokens.now) }
 {
     match term_first(bytes, tokens)? {
@@ -340,14 +370,16 @@ fn narrowed(class: Class) -> Class
     }
 }
 
-/// The class expression that the tokens begin with, where owl:Thing and qualified ones aren't taken.
+/// The class expression that the tokens begin with, where owl:Thing and qualified ones aren't
+/// taken.
 #[tactic(auto, unfolding(crate::specs::Terms::basic_first))]
 pub(crate) fn basic_first<'b>(
     bytes: &[u8],
     known: &Table,
     tokens: &'b [Token],
 ) -> Result<(Class, &'b [Token]), Stop>
-    ensures given { Gives result (t.basic_first known.now (map (lexeme bytes.now) tokens.now)) (λ found. (class_seen bytes.now found.0, map (lexeme bytes.now) found.1.now)) }
+    ensures given { Gives result (t.basic_first known.now (map (lexeme bytes.now) tokens.now))
+        (λ found. (class_seen bytes.now found.0, map (lexeme bytes.now) found.1.now)) }
     ensures shorter { IfOk result (λ found. length found.1.now < length tokens.now) }
 {
     let (class, rest) = class_first(bytes, known, tokens)?;

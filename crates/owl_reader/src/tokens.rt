@@ -1,8 +1,12 @@
-ghost use Rattle.std.specs.Prelude.{List, ℕ, ◌^◌, IfOk, IfSome, ◌≡◌, false, ◌+◌, ◌-◌, ◌≤◌, ◌<◌, length, drop, take, map};
+//! The tokens of a document.
+
+ghost use Rattle.std.specs.Prelude.{List, ℕ, ◌^◌, IfOk, IfSome, ◌≡◌, false, ◌+◌, ◌-◌, ◌≤◌, ◌<◌};
+ghost use Rattle.std.specs.Prelude.{length, drop, take, map};
 ghost use Rattle.std.specs.Option.{option_map};
 ghost use Rattle.std.specs.List.{prefix_len};
 ghost use Rattle.text_scan.specs.Bytes.{is_blank, is_comment_byte};
-ghost use Rattle.owl_reader.specs.Tokens.{is_word_byte, is_iri_byte, quote_step, string_len, piece, iri, quoted, front_piece, LiesWithin, lexeme, lexed};
+ghost use Rattle.owl_reader.specs.Tokens.{is_word_byte, is_iri_byte, quote_step, string_len, piece};
+ghost use Rattle.owl_reader.specs.Tokens.{iri, quoted, front_piece, LiesWithin, lexeme, lexed};
 
 use std::alloc::{AllocError, Global};
 
@@ -197,7 +201,8 @@ pub(crate) fn text_of<'a>(text: &'a [u8], token: &Token) -> &'a [u8]
 /// The token of so many bytes that starts there.
 fn token_at(kind: TokenKind, start: usize, len: usize) -> Token
     requires { start + len < 2 ^ 64 }
-    ensures { (text : List ℕ) → lexeme text result ≡ record { kind = kind; text = take len (drop start text); start = start } }
+    ensures { (text : List ℕ) → lexeme text result
+        ≡ record { kind = kind; text = take len (drop start text); start = start } }
 {
     Token {
         kind,

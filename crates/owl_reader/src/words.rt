@@ -1,3 +1,5 @@
+//! The words that have a meaning.
+
 ghost use Rattle.std.specs.Prelude.{◌≡◌};
 ghost use Rattle.owl_reader.specs.Words as words;
 

@@ -1,33 +1,49 @@
 -- Laws of how many queries several ones reach in all.
-use Rattle.std.proofs.Common.{◌≡◌, ℕ, ◌+◌, ◌-◌, ◌<◌, ◌≤◌, List, [], ◌∷◌, ◌++◌, length, refl, sym, ◌∙◌, ap, subst, arith, inl, inr, length-append}
+use Rattle.std.proofs.Common.{◌≡◌, ℕ, ◌+◌, ◌-◌, ◌<◌, ◌≤◌, List, [], ◌∷◌, ◌++◌, length, refl, sym}
+use Rattle.std.proofs.Common.{◌∙◌, ap, subst, arith, inl, inr, length-append}
 use Rattle.std.specs.Prelude.{◌≢◌}
 use Rattle.std.specs.List.{AllPairs, AllZip, Contains}
 use Rattle.std.proofs.lemmas.List.Sums.{sum_by-cons, sum_by-append}
-use Rattle.std.proofs.lemmas.List.Elements.{All-nil, All-contains, Contains-append_left, Contains-append_right, Contains-append_cases}
+use Rattle.std.proofs.lemmas.List.Elements.{All-nil, All-contains, Contains-append_left}
+use Rattle.std.proofs.lemmas.List.Elements.{Contains-append_right, Contains-append_cases}
 use Rattle.dl_syntax.specs.declared.queries.Cq.{Cq}
-use Rattle.dl_syntax.proofs.AllByCons.{Contains-none, Contains-first, Contains-later, Contains-cons_cases, AllPairs-nil, AllPairs-tail, AllPairs-head}
+use Rattle.dl_syntax.proofs.AllByCons.{Contains-none, Contains-first, Contains-later}
+use Rattle.dl_syntax.proofs.AllByCons.{Contains-cons_cases, AllPairs-nil, AllPairs-tail}
+use Rattle.dl_syntax.proofs.AllByCons.{AllPairs-head}
 use Rattle.perfect_ref.specs.Plain.{Encoded, Reachable, HoldsOf, HoldsOfMore}
-use Rattle.perfect_ref.specs.Counting.{length_in_all, AreAllReached, AreReached, ReachAll, ReachMore}
+use Rattle.perfect_ref.specs.Counting.{length_in_all, AreAllReached, AreReached, ReachAll}
+use Rattle.perfect_ref.specs.Counting.{ReachMore}
 
-split : {X : Type 0} (xs : List X) (x : X) → Contains xs x → (front : List X) × (back : List X) × (xs ≡ front ++ x ∷ back)
+split : {X : Type 0} (xs : List X) (x : X) → Contains xs x
+    → (front : List X) × (back : List X) × (xs ≡ front ++ x ∷ back)
 split {X = X} [] x there = absurd (Contains-none x there)
 split {X = X} (y ∷ xs) x there =
     elim (Contains-cons_cases y xs x there) [
       | inl same ↦ ([], xs, ap (λ z. z ∷ xs) same)
-      | inr later ↦ (let found : (front : List X) × (back : List X) × (xs ≡ front ++ x ∷ back) = split xs x later in (y ∷ found.0, found.1, ap (λ zs. y ∷ zs) found.2))
+      | inr later ↦ (let found : (front : List X) × (back : List X) × (xs ≡ front ++ x ∷ back) =
+          split xs x later in (y ∷ found.0, found.1, ap (λ zs. y ∷ zs) found.2))
     ]
 
 -- different elements that another list contains are no more than that has
-pub fewer : {X : Type 0} (xs ys : List X) → AllPairs (λ p q. p ≢ q) xs → ((q : X) → Contains xs q → Contains ys q) → length xs ≤ length ys
+pub fewer : {X : Type 0} (xs ys : List X) → AllPairs (λ p q. p ≢ q) xs
+    → ((q : X) → Contains xs q → Contains ys q) → length xs ≤ length ys
 fewer {X = X} [] ys distinct inside = omega arith
 fewer {X = X} (x ∷ xs) ys distinct inside =
-    let parts : (front : List X) × (back : List X) × (ys ≡ front ++ x ∷ back) = split ys x (inside x (Contains-first x xs)) in
-    let less : length xs ≤ length (parts.0 ++ parts.1) = fewer xs (parts.0 ++ parts.1) (AllPairs-tail (λ p q. p ≢ q) x xs distinct) (λ q there. others x xs parts.0 parts.1 q (AllPairs-head (λ p r. p ≢ r) x xs q distinct there) (subst (λ (zs : List X). Contains zs q) parts.2 (inside q (Contains-later x xs q there)))) in
-    let whole : length ys ≡ length parts.0 + length (x ∷ parts.1) = ap length parts.2 ∙ length-append parts.0 (x ∷ parts.1) in
-    let rest : length (parts.0 ++ parts.1) ≡ length parts.0 + length parts.1 = length-append parts.0 parts.1 in
+    let parts : (front : List X) × (back : List X) × (ys ≡ front ++ x ∷ back) =
+    split ys x (inside x (Contains-first x xs)) in
+    let less : length xs ≤ length (parts.0 ++ parts.1) =
+    fewer xs (parts.0 ++ parts.1) (AllPairs-tail (λ p q. p ≢ q) x xs distinct) (λ q there.
+    others x xs parts.0 parts.1 q (AllPairs-head (λ p r. p ≢ r) x xs q distinct there)
+    (subst (λ (zs : List X). Contains zs q) parts.2
+    (inside q (Contains-later x xs q there)))) in
+    let whole : length ys ≡ length parts.0 + length (x ∷ parts.1) =
+    ap length parts.2 ∙ length-append parts.0 (x ∷ parts.1) in
+    let rest : length (parts.0 ++ parts.1) ≡ length parts.0 + length parts.1 =
+    length-append parts.0 parts.1 in
     omega arith
   where
-    others : (x : X) (xs front back : List X) (q : X) → x ≢ q → Contains (front ++ x ∷ back) q → Contains (front ++ back) q
+    others : (x : X) (xs front back : List X) (q : X) → x ≢ q → Contains (front ++ x ∷ back) q
+        → Contains (front ++ back) q
     others x xs front back q different there =
         elim (Contains-append_cases front (x ∷ back) q there) [
           | inl early ↦ Contains-append_left front back q early
@@ -37,7 +53,8 @@ fewer {X = X} (x ∷ xs) ys distinct inside =
           ]
         ]
 
-joined : {A B : Type 0} (R : A → B → Type 0) (xs xs' : List A) (ys ys' : List B) → AllZip R xs ys → AllZip R xs' ys' → AllZip R (xs ++ xs') (ys ++ ys')
+joined : {A B : Type 0} (R : A → B → Type 0) (xs xs' : List A) (ys ys' : List B) → AllZip R xs ys
+    → AllZip R xs' ys' → AllZip R (xs ++ xs') (ys ++ ys')
 joined R [] xs' [] ys' first later = later
 joined R [] xs' (y ∷ ys) ys' first later = absurd first
 joined R (x ∷ xs) xs' [] ys' first later = absurd first
@@ -47,9 +64,12 @@ module _ (e : Encoded) where
   pub all_none : ReachAll e [] 0
   all_none = record { lists = []; each = tt; total = refl }
 
-  pub all_joined : (a b : List Cq) (n m : ℕ) → ReachAll e a n → ReachAll e b m → ReachAll e (a ++ b) (n + m)
+  pub all_joined : (a b : List Cq) (n m : ℕ) → ReachAll e a n → ReachAll e b m
+      → ReachAll e (a ++ b) (n + m)
   all_joined a b n m first later =
-      let whole : length_in_all (first.lists ++ later.lists) ≡ length_in_all first.lists + length_in_all later.lists = sum_by-append length first.lists later.lists in
+      let whole : length_in_all (first.lists ++ later.lists)
+      ≡ length_in_all first.lists + length_in_all later.lists =
+      sum_by-append length first.lists later.lists in
       let left : length_in_all first.lists ≡ n = first.total in
       let right : length_in_all later.lists ≡ m = later.total in
       record {
@@ -61,16 +81,19 @@ module _ (e : Encoded) where
   pub all_one : (q : Cq) (n : ℕ) → HoldsOf (Reachable e q) n → ReachAll e (q ∷ []) n
   all_one q n holds =
       let nothing_more : List (List Cq) = [] in
-      let whole : length_in_all (holds.0 ∷ nothing_more) ≡ length holds.0 + length_in_all nothing_more = sum_by-cons length holds.0 nothing_more in
+      let whole : length_in_all (holds.0 ∷ nothing_more)
+      ≡ length holds.0 + length_in_all nothing_more = sum_by-cons length holds.0 nothing_more in
       let none : length_in_all nothing_more ≡ 0 = refl in
       let long : length holds.0 ≡ n = holds.2 in
       record { lists = holds.0 ∷ []; each = (holds.1, tt); total = omega arith }
 
-  some_of_all : (qs : List Cq) (lists : List (List Cq)) → AllZip (AreAllReached e) qs lists → AllZip (AreReached e) qs lists
+  some_of_all : (qs : List Cq) (lists : List (List Cq)) → AllZip (AreAllReached e) qs lists
+      → AllZip (AreReached e) qs lists
   some_of_all [] [] is = tt
   some_of_all [] (y ∷ ys) is = absurd is
   some_of_all (q ∷ qs) [] is = absurd is
-  some_of_all (q ∷ qs) (y ∷ ys) (is, later) = (record { distinct = is.distinct; sound = is.sound }, some_of_all qs ys later)
+  some_of_all (q ∷ qs) (y ∷ ys) (is, later) =
+      (record { distinct = is.distinct; sound = is.sound }, some_of_all qs ys later)
 
   nothing : List Cq → List (List Cq)
   nothing [] = []
@@ -79,11 +102,20 @@ module _ (e : Encoded) where
   some_nothing : (qs : List Cq) → AllZip (AreReached e) qs (nothing qs)
   unfolding nothing
   some_nothing [] = tt
-  some_nothing (q ∷ qs) = (record { distinct = AllPairs-nil (λ p r. p ≢ r); sound = All-nil (Reachable e q) }, some_nothing qs)
+  some_nothing (q ∷ qs) = (
+    record {
+      distinct = AllPairs-nil (λ p r. p ≢ r);
+      sound =
+          All-nil (Reachable e q);
+    },
+    some_nothing qs,
+  )
 
   pub more_first : (a b : List Cq) (room : ℕ) → ReachMore e a room → ReachMore e (a ++ b) room
   more_first a b room more =
-      let whole : length_in_all (more.lists ++ nothing b) ≡ length_in_all more.lists + length_in_all (nothing b) = sum_by-append length more.lists (nothing b) in
+      let whole : length_in_all (more.lists ++ nothing b)
+      ≡ length_in_all more.lists + length_in_all (nothing b) =
+      sum_by-append length more.lists (nothing b) in
       let beyond : room < length_in_all more.lists = more.more in
       record {
         lists = more.lists ++ nothing b;
@@ -91,59 +123,83 @@ module _ (e : Encoded) where
         more = omega arith;
       }
 
-  pub more_later : (a b : List Cq) (n room : ℕ) → ReachAll e a n → n ≤ room → ReachMore e b (room - n) → ReachMore e (a ++ b) room
+  pub more_later : (a b : List Cq) (n room : ℕ) → ReachAll e a n → n ≤ room
+      → ReachMore e b (room - n) → ReachMore e (a ++ b) room
   more_later a b n room first few more =
-      let whole : length_in_all (first.lists ++ more.lists) ≡ length_in_all first.lists + length_in_all more.lists = sum_by-append length first.lists more.lists in
+      let whole : length_in_all (first.lists ++ more.lists)
+      ≡ length_in_all first.lists + length_in_all more.lists =
+      sum_by-append length first.lists more.lists in
       let left : length_in_all first.lists ≡ n = first.total in
       let beyond : room - n < length_in_all more.lists = more.more in
       record {
         lists = first.lists ++ more.lists;
-        each = joined (AreReached e) a b first.lists more.lists (some_of_all a first.lists first.each) more.each;
+        each = joined (AreReached e) a b first.lists more.lists
+            (some_of_all a first.lists first.each) more.each;
         more = omega arith;
       }
 
   pub more_one : (q : Cq) (room : ℕ) → HoldsOfMore (Reachable e q) room → ReachMore e (q ∷ []) room
   more_one q room more =
       let nothing_more : List (List Cq) = [] in
-      let whole : length_in_all (more.list ∷ nothing_more) ≡ length more.list + length_in_all nothing_more = sum_by-cons length more.list nothing_more in
+      let whole : length_in_all (more.list ∷ nothing_more)
+      ≡ length more.list + length_in_all nothing_more =
+      sum_by-cons length more.list nothing_more in
       let none : length_in_all nothing_more ≡ 0 = refl in
       let beyond : room < length more.list = more.more in
-      record { lists = more.list ∷ []; each = (record { distinct = more.distinct; sound = more.sound }, tt); more = omega arith }
+      record {
+        lists = more.list ∷ [];
+        each =
+            (record { distinct = more.distinct; sound = more.sound }, tt);
+        more = omega arith;
+      }
 
-  at_most : (qs : List Cq) (all some : List (List Cq)) → AllZip (AreAllReached e) qs all → AllZip (AreReached e) qs some → length_in_all some ≤ length_in_all all
+  at_most : (qs : List Cq) (all some : List (List Cq)) → AllZip (AreAllReached e) qs all
+      → AllZip (AreReached e) qs some → length_in_all some ≤ length_in_all all
   at_most [] [] [] is has = omega arith
   at_most [] [] (x ∷ xs) is has = absurd has
   at_most [] (y ∷ ys) xs is has = absurd is
   at_most (q ∷ qs) [] xs is has = absurd is
   at_most (q ∷ qs) (y ∷ ys) [] is has = absurd has
   at_most (q ∷ qs) (y ∷ ys) (x ∷ xs) (is, later) (has, others) =
-      let first : length x ≤ length y = fewer x y has.distinct (λ r there. is.complete r (All-contains (Reachable e q) x r has.sound there)) in
+      let first : length x ≤ length y =
+      fewer x y has.distinct (λ r there.
+      is.complete r (All-contains (Reachable e q) x r has.sound there)) in
       let rest : length_in_all xs ≤ length_in_all ys = at_most qs ys xs later others in
       let left : length_in_all (x ∷ xs) ≡ length x + length_in_all xs = sum_by-cons length x xs in
       let right : length_in_all (y ∷ ys) ≡ length y + length_in_all ys = sum_by-cons length y ys in
       omega arith
 
   -- where all is counted, there is no more
-  pub no_more : (qs : List Cq) (count room : ℕ) → ReachAll e qs count → count ≤ room → ReachMore e qs room → ⊥
+  pub no_more : (qs : List Cq) (count room : ℕ) → ReachAll e qs count → count ≤ room
+      → ReachMore e qs room → ⊥
   no_more qs count room whole few more =
-      let bound : length_in_all more.lists ≤ length_in_all whole.lists = at_most qs whole.lists more.lists whole.each more.each in
+      let bound : length_in_all more.lists ≤ length_in_all whole.lists =
+      at_most qs whole.lists more.lists whole.each more.each in
       let same : length_in_all whole.lists ≡ count = whole.total in
       let beyond : room < length_in_all more.lists = more.more in
       omega arith
 
   -- where one of several queries reaches more, they do
-  pub more_among : (front rest : List Cq) (q : Cq) (room : ℕ) → HoldsOfMore (Reachable e q) room → ReachMore e (front ++ q ∷ rest) room
+  pub more_among : (front rest : List Cq) (q : Cq) (room : ℕ) → HoldsOfMore (Reachable e q) room
+      → ReachMore e (front ++ q ∷ rest) room
   more_among front rest q room more =
-      let one : ReachMore e (q ∷ rest) room = more_first (q ∷ []) rest room (more_one q room more) in
-      let own : length_in_all (nothing front ++ one.lists) ≡ length_in_all (nothing front) + length_in_all one.lists = sum_by-append length (nothing front) one.lists in
+      let one : ReachMore e (q ∷ rest) room =
+      more_first (q ∷ []) rest room (more_one q room more) in
+      let own : length_in_all (nothing front ++ one.lists)
+      ≡ length_in_all (nothing front) + length_in_all one.lists =
+      sum_by-append length (nothing front) one.lists in
       let beyond : room < length_in_all one.lists = one.more in
       record {
         lists = nothing front ++ one.lists;
-        each = joined (AreReached e) front (q ∷ rest) (nothing front) one.lists (some_nothing front) one.each;
+        each = joined (AreReached e) front (q ∷ rest) (nothing front) one.lists (some_nothing front)
+            one.each;
         more = omega arith;
       }
 
-  pub more_contained : (qs : List Cq) (q : Cq) (room : ℕ) → Contains qs q → HoldsOfMore (Reachable e q) room → ReachMore e qs room
+  pub more_contained : (qs : List Cq) (q : Cq) (room : ℕ) → Contains qs q
+      → HoldsOfMore (Reachable e q) room → ReachMore e qs room
   more_contained qs q room there more =
-      let parts : (front : List Cq) × (back : List Cq) × (qs ≡ front ++ q ∷ back) = split qs q there in
-      subst (λ (zs : List Cq). ReachMore e zs room) (sym parts.2) (more_among parts.0 parts.1 q room more)
+      let parts : (front : List Cq) × (back : List Cq) × (qs ≡ front ++ q ∷ back) =
+      split qs q there in
+      subst (λ (zs : List Cq). ReachMore e zs room) (sym parts.2)
+      (more_among parts.0 parts.1 q room more)

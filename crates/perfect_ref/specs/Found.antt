@@ -26,11 +26,13 @@ Somewhere R bound q = (place : ℕ) × (place < bound) × R place q
 
 -- a replacement by one of the inclusions at the place leads from the first query to the second
 abbrev pub IsReplacement : List Inclusion → Cq → ℕ → Cq → Type 0
-IsReplacement inclusions q place q' = (i : Inclusion) × Contains inclusions i × Replaces i place q q'
+IsReplacement inclusions q place q' = (i : Inclusion) × Contains inclusions i
+    × Replaces i place q q'
 
 -- so does one by an inclusion that makes nulls
 abbrev pub IsNullReplacement : List Inclusion → Cq → ℕ → Cq → Type 0
-IsNullReplacement inclusions q place q' = (i : Inclusion) × Contains inclusions i × MakesNulls i × Replaces i place q q'
+IsNullReplacement inclusions q place q' = (i : Inclusion) × Contains inclusions i × MakesNulls i
+    × Replaces i place q q'
 
 -- a reduce of a pair of places with this second one
 abbrev pub IsReductAt : Cq → ℕ → Cq → Type 0
@@ -39,16 +41,23 @@ IsReductAt q k q' = Somewhere (λ j. Reduces j k q) k q'
 abbrev pub IsReduct : Cq → Cq → Type 0
 IsReduct q q' = Somewhere (λ k. IsReductAt q k) (length q.body) q'
 
--- the second list has exactly those elements of the first that the property holds of, in their order
+-- the second list has exactly those elements of the first that the property holds of, in their
+-- order
 pub data Filters (P : Cq → Type 0) : List Cq → List Cq → Type 0 where
   none : Filters P [] []
-  keep : {q : Cq} {all some : List Cq} → P q → Filters P all some → Filters P (all ++ q ∷ []) (some ++ q ∷ [])
-  leave : {q : Cq} {all some : List Cq} → (P q → ⊥) → Filters P all some → Filters P (all ++ q ∷ []) some
+  keep : {q : Cq} {all some : List Cq} → P q → Filters P all some
+      → Filters P (all ++ q ∷ []) (some ++ q ∷ [])
+  leave : {q : Cq} {all some : List Cq} → (P q → ⊥) → Filters P all some
+      → Filters P (all ++ q ∷ []) some
 
--- one of the queries is at the place, and a replacement by an inclusion that makes nulls leads from it to one that names no hidden role
+-- one of the queries is at the place, and a replacement by an inclusion that makes nulls leads from
+-- it to one that names no hidden role
 abbrev pub IsMadeAt : ℕ → List Inclusion → List Cq → ℕ → Cq → Type 0
-IsMadeAt roles inclusions found place q' = (q : Cq) × (slice_get found place ≡ Some q) × Somewhere (IsNullReplacement inclusions q) (length q.body) q' × IsPlain roles q'
+IsMadeAt roles inclusions found place q' = (q : Cq) × (slice_get found place ≡ Some q)
+    × Somewhere (IsNullReplacement inclusions q) (length q.body) q' × IsPlain roles q'
 
--- the list has exactly the first query, and what replacements by inclusions that make nulls make of the found ones, where that names no hidden role
+-- the list has exactly the first query, and what replacements by inclusions that make nulls make of
+-- the found ones, where that names no hidden role
 abbrev pub IsCoreOf : ℕ → List Inclusion → Cq → List Cq → List Cq → Type 0
-IsCoreOf roles inclusions first found core = Absorbs (Somewhere (IsMadeAt roles inclusions found) (length found)) (first ∷ []) core
+IsCoreOf roles inclusions first found core =
+    Absorbs (Somewhere (IsMadeAt roles inclusions found) (length found)) (first ∷ []) core

@@ -16,14 +16,17 @@ use Rattle.perfect_ref.specs.Plain.{encoded, PlainReachable, PlainCore}
 abbrev pub SomeGives : (Cq → Type 0) → List Fact → List IndId → Type 0
 SomeGives P facts row = (q : Cq) × P q × Gives q facts (map ind_element row)
 
--- the certain answers are what the reachable queries that name no hidden role give in the snapshot's facts
+-- the certain answers are what the reachable queries that name no hidden role give in the
+-- snapshot's facts
 abbrev pub RewritingGivesAnswers : Type 0
-RewritingGivesAnswers = (o : Declared) (q : Cq) (snapshot : List Fact) (row : List IndId) → IsOverOntology o snapshot → IsQueryOver o q →
+RewritingGivesAnswers = (o : Declared) (q : Cq) (snapshot : List Fact) (row : List IndId)
+    → IsOverOntology o snapshot → IsQueryOver o q →
     SomeGives (PlainReachable (encoded o) q) snapshot row ↔ Certain o.inclusions q snapshot row
 
 -- the certain answers are what the core gives in the saturated facts
 abbrev pub CoreGivesAnswers : Type 0
-CoreGivesAnswers = (o : Declared) (q : Cq) (snapshot facts : List Fact) (row : List IndId) → IsOverOntology o snapshot → IsQueryOver o q → IsSaturated o snapshot facts →
+CoreGivesAnswers = (o : Declared) (q : Cq) (snapshot facts : List Fact) (row : List IndId)
+    → IsOverOntology o snapshot → IsQueryOver o q → IsSaturated o snapshot facts →
     SomeGives (PlainCore (encoded o) q) facts row ↔ Certain o.inclusions q snapshot row
 
 -- the same of a saturation
@@ -35,4 +38,5 @@ CoreAnswersSaturation =
 
 -- each reachable query is within the limits, and its head is as long as the first one's
 abbrev pub ReachableIsQuery : Type 0
-ReachableIsQuery = (o : Declared) (q q' : Cq) → IsQuery q → PlainReachable (encoded o) q q' → IsQuery q' × (length q'.head ≡ length q.head)
+ReachableIsQuery = (o : Declared) (q q' : Cq) → IsQuery q → PlainReachable (encoded o) q q'
+    → IsQuery q' × (length q'.head ≡ length q.head)

@@ -1,4 +1,5 @@
--- The rewriting of a query over an ontology, after Calvanese, De Giacomo, Lembo, Lenzerini and Rosati 2007: the reachable queries that name no hidden role.
+-- The rewriting of a query over an ontology, after Calvanese, De Giacomo, Lembo, Lenzerini and
+-- Rosati 2007: the reachable queries that name no hidden role.
 use Rattle.std.specs.Prelude.{◌≡◌, ◌≢◌, ℕ, ◌<◌, List, length}
 use Rattle.std.specs.List.{All, AllPairs, Contains}
 use Rattle.dl_syntax.specs.declared.ontology.Inclusion.{Inclusion}
@@ -10,7 +11,8 @@ use Rattle.dl_syntax.specs.Encode.{encode}
 use Rattle.query_unify.specs.Reach.{Reach}
 use Rattle.query_unify.specs.Core.{IsCore}
 
--- what rewriting needs of an ontology: the count of its roles, and the inclusions of its encoding, whose hidden roles are numbered from that count on
+-- what rewriting needs of an ontology: the count of its roles, and the inclusions of its encoding,
+-- whose hidden roles are numbered from that count on
 pub record Encoded : Type 0 where
   pub roles : ℕ
   pub inclusions : List Inclusion
@@ -34,7 +36,8 @@ Reachable o q q' = Reach o.inclusions q q'
 abbrev pub PlainReachable : Encoded → Cq → Cq → Type 0
 PlainReachable o q q' = Reach o.inclusions q q' × IsPlain o.roles q'
 
--- the normalised query, and what a replacement by an inclusion with `some` on the right makes of a reachable one, where that names no hidden role
+-- the normalised query, and what a replacement by an inclusion with `some` on the right makes of a
+-- reachable one, where that names no hidden role
 abbrev pub PlainCore : Encoded → Cq → Cq → Type 0
 PlainCore o q q' = IsCore o.inclusions q q' × IsPlain o.roles q'
 

@@ -21,8 +21,10 @@ number_on side.Role (inclusion.Roles r s) = Some s.id.0
 number_on kind i = None
 
 -- each list has exactly the inclusions with its number on the right
-pub record IsIndex (kind : Side) (inclusions : List Inclusion) (lists : List (Vec Inclusion Global)) : Type 0 where
-  pub exactly : (k : ℕ) (i : Inclusion) → Contains (listed lists k) i ↔ (Contains inclusions i × (number_on kind i ≡ Some k))
+pub record IsIndex (kind : Side) (inclusions : List Inclusion)
+    (lists : List (Vec Inclusion Global)) : Type 0 where
+  pub exactly : (k : ℕ) (i : Inclusion)
+      → Contains (listed lists k) i ↔ (Contains inclusions i × (number_on kind i ≡ Some k))
 
 -- the inclusion has the atom's concept or role on its right side, and makes no null
 abbrev pub IsFor : Inclusion → Atom → Type 0
@@ -35,14 +37,16 @@ MakesFor i (atom.Concept c x) = ⊥
 MakesFor i (atom.Role p x y) = number_on side.Exists i ≡ Some p.0
 
 -- all inclusions of the list that may let the atom become another, but for those that make nulls
-pub record IsCandidates (inclusions : List Inclusion) (a : Atom) (list : List Inclusion) : Type 0 where
-  pub sound : All (Contains inclusions) list
-  pub unqualified : All IsUnqualified list
-  pub complete : (i : Inclusion) → Contains inclusions i → IsFor i a → Contains list i
+pub record IsCandidates (inclusions : List Inclusion) (a : Atom) (list : List Inclusion) : Type 0
+  where
+    pub sound : All (Contains inclusions) list
+    pub unqualified : All IsUnqualified list
+    pub complete : (i : Inclusion) → Contains inclusions i → IsFor i a → Contains list i
 
 -- those that make nulls
-pub record IsNullMakers (inclusions : List Inclusion) (a : Atom) (list : List Inclusion) : Type 0 where
-  pub sound : All (Contains inclusions) list
-  pub unqualified : All IsUnqualified list
-  pub nulls : All MakesNulls list
-  pub complete : (i : Inclusion) → Contains inclusions i → MakesFor i a → Contains list i
+pub record IsNullMakers (inclusions : List Inclusion) (a : Atom) (list : List Inclusion) : Type 0
+  where
+    pub sound : All (Contains inclusions) list
+    pub unqualified : All IsUnqualified list
+    pub nulls : All MakesNulls list
+    pub complete : (i : Inclusion) → Contains inclusions i → MakesFor i a → Contains list i

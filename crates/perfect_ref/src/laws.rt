@@ -1,5 +1,6 @@
 //! Laws of the definitions, each the contract of a function with nothing to do.
-ghost use Rattle.perfect_ref.specs.Laws.{RewritingGivesAnswers, CoreGivesAnswers, CoreAnswersSaturation, ReachableIsQuery};
+ghost use Rattle.perfect_ref.specs.Laws.{RewritingGivesAnswers, CoreGivesAnswers};
+ghost use Rattle.perfect_ref.specs.Laws.{CoreAnswersSaturation, ReachableIsQuery};
 
 /// The certain answers of a query are what its rewriting gives in the snapshot's facts alone.
 pub fn rewriting_gives_answers()

@@ -1,3 +1,5 @@
+//! The rewriting of a query.
+
 ghost use Rattle.std.specs.Prelude.{◌≡◌, ◌≢◌, ◌↔◌, ◌≤◌, [], List, IsTrue, IfOk, OnOk};
 ghost use Rattle.std.specs.List.{All, AllPairs, Contains};
 ghost use Rattle.indexmap.specs.IndexSet.{index_set_len};
@@ -6,7 +8,8 @@ ghost use Rattle.dl_syntax.specs.declared.facts.Fact.{Fact};
 ghost use Rattle.dl_syntax.specs.Queries.{IsQuery};
 ghost use Rattle.dl_syntax.specs.Match.{Certain};
 ghost use Rattle.perfect_ref.specs.Found.{Absorbs, Filters, IsCoreOf};
-ghost use Rattle.perfect_ref.specs.Plain.{encoded, IsPlainAtom, IsPlain, Reachable, PlainReachable, PlainCore, Lists, HoldsOf, HoldsOfMore};
+ghost use Rattle.perfect_ref.specs.Plain.{encoded, IsPlainAtom, IsPlain, Reachable, PlainReachable};
+ghost use Rattle.perfect_ref.specs.Plain.{PlainCore, Lists, HoldsOf, HoldsOfMore};
 ghost use Rattle.perfect_ref.specs.Laws.{SomeGives};
 ghost use Rattle.dl_syntax.specs.Encode.{IsOverOntology, IsQueryOver};
 ghost use Rattle.dl_syntax.specs.Saturation.{IsSaturated};
@@ -100,7 +103,8 @@ fn plain_members(alloc: Global, roles: u32, found: IndexSet<Cq>) -> Result<Vec<C
 /// Moves the queries that name no hidden role into the set.
 fn absorb_plain(roles: u32, made: &mut Vec<Cq>, core: &mut IndexSet<Cq>) -> Result<(), Memory>
     ensures emptied { OnOk result (made.new.items ≡ []) }
-    ensures absorbs { OnOk result (Absorbs (λ q. Contains made.old.items q × IsPlain roles q) core.old.keys core.new.keys) }
+    ensures absorbs { OnOk result (Absorbs (λ q. Contains made.old.items q
+        × IsPlain roles q) core.old.keys core.new.keys) }
 {
     while let Some(cq) = made.pop() {
         if is_plain(roles, &cq) {
@@ -110,7 +114,8 @@ fn absorb_plain(roles: u32, made: &mut Vec<Cq>, core: &mut IndexSet<Cq>) -> Resu
     Ok(())
 }
 
-/// The normalised query, and what the inclusions that make nulls make of the found ones, where that names no hidden role.
+/// The normalised query, and what the inclusions that make nulls make of the found ones, where that
+/// names no hidden role.
 fn core_of(
     alloc: Global,
     roles: u32,
@@ -144,7 +149,8 @@ fn collected(alloc: Global, set: IndexSet<Cq>, count: usize) -> Result<Vec<Cq>, 
 
 /// The members of the set.
 fn members_of(alloc: Global, set: IndexSet<Cq>) -> Result<Vec<Cq>, Memory>
-    ensures { IfOk result (λ members. (members.items ≡ set.keys) × AllPairs (λ p q. p ≢ q) members.items) }
+    ensures { IfOk result (λ members. (members.items ≡ set.keys)
+        × AllPairs (λ p q. p ≢ q) members.items) }
 {
     let count = set.len();
     collected(alloc, set, count)
@@ -167,7 +173,8 @@ impl Rewriter {
         ensures found { IfOk result (λ found. Lists (Reachable self.now cq.now) found.keys) }
         ensures few { IfOk result (λ found. index_set_len found ≤ room) }
         ensures within { IfOk result (λ _. HoldsOfMore (Reachable self.now cq.now) room → ⊥) }
-        ensures many { result ≡ Err RewriteFault.TooManyRewritings → HoldsOfMore (Reachable self.now cq.now) room }
+        ensures many { result ≡ Err RewriteFault.TooManyRewritings
+            → HoldsOfMore (Reachable self.now cq.now) room }
     {
         let alloc = self.rules.alloc();
         match normalise(alloc, cq) {
@@ -180,12 +187,16 @@ impl Rewriter {
         }
     }
 
-    /// The distinct reachable queries that name no hidden role, in an order of the call's choice. `TooManyRewritings` comes exactly where more than `room` queries are reachable, those with hidden roles counted too.
+    /// The distinct reachable queries that name no hidden role, in an order of the call's choice.
+    /// `TooManyRewritings` comes exactly where more than `room` queries are reachable, those with
+    /// hidden roles counted too.
     pub fn rewrite(&self, cq: &Cq, room: u32) -> Result<Vec<Cq>, RewriteFault>
         requires { IsQuery cq.now }
-        ensures members { IfOk result (λ members. Lists (PlainReachable self.now cq.now) members.items) }
+        ensures members { IfOk result (λ members.
+            Lists (PlainReachable self.now cq.now) members.items) }
         ensures within { IfOk result (λ _. HoldsOfMore (Reachable self.now cq.now) room → ⊥) }
-        ensures many { result ≡ Err RewriteFault.TooManyRewritings → HoldsOfMore (Reachable self.now cq.now) room }
+        ensures many { result ≡ Err RewriteFault.TooManyRewritings
+            → HoldsOfMore (Reachable self.now cq.now) room }
     {
         match self.reach(cq, room) {
             Ok(found) => match plain_members(self.rules.alloc(), self.roles, found) {
@@ -196,14 +207,18 @@ impl Rewriter {
         }
     }
 
-    /// The rewriting together with the count of the reachable queries, in one pass. The refusals are those of `rewrite`.
+    /// The rewriting together with the count of the reachable queries, in one pass. The refusals
+    /// are those of `rewrite`.
     pub fn rewrite_counted(&self, cq: &Cq, room: u32) -> Result<CountedRewriting, RewriteFault>
         requires { IsQuery cq.now }
-        ensures members { IfOk result (λ counted. Lists (PlainReachable self.now cq.now) counted.members.items) }
-        ensures count { IfOk result (λ counted. HoldsOf (Reachable self.now cq.now) counted.reached) }
+        ensures members { IfOk result (λ counted.
+            Lists (PlainReachable self.now cq.now) counted.members.items) }
+        ensures count { IfOk result (λ counted.
+            HoldsOf (Reachable self.now cq.now) counted.reached) }
         ensures few { IfOk result (λ counted. counted.reached ≤ room) }
         ensures within { IfOk result (λ _. HoldsOfMore (Reachable self.now cq.now) room → ⊥) }
-        ensures many { result ≡ Err RewriteFault.TooManyRewritings → HoldsOfMore (Reachable self.now cq.now) room }
+        ensures many { result ≡ Err RewriteFault.TooManyRewritings
+            → HoldsOfMore (Reachable self.now cq.now) room }
     {
         match self.reach(cq, room) {
             Ok(found) => {
@@ -217,13 +232,15 @@ impl Rewriter {
         }
     }
 
-    /// How many queries are reachable, those with hidden roles counted too. `TooManyRewritings` comes exactly where they are more than `room`.
+    /// How many queries are reachable, those with hidden roles counted too. `TooManyRewritings`
+    /// comes exactly where they are more than `room`.
     pub fn reach_count(&self, cq: &Cq, room: u32) -> Result<u32, RewriteFault>
         requires { IsQuery cq.now }
         ensures count { IfOk result (λ count. HoldsOf (Reachable self.now cq.now) count) }
         ensures few { IfOk result (λ count. count ≤ room) }
         ensures within { IfOk result (λ _. HoldsOfMore (Reachable self.now cq.now) room → ⊥) }
-        ensures many { result ≡ Err RewriteFault.TooManyRewritings → HoldsOfMore (Reachable self.now cq.now) room }
+        ensures many { result ≡ Err RewriteFault.TooManyRewritings
+            → HoldsOfMore (Reachable self.now cq.now) room }
     {
         match self.reach(cq, room) {
             Ok(found) => Ok(found.len() as u32),
@@ -231,15 +248,20 @@ impl Rewriter {
         }
     }
 
-    /// The normalised query, and the reachable queries without hidden roles that a replacement by an inclusion with `some` on the right makes of a reachable one, each once, beside the count of all reachable queries. Over facts to which nothing can be added they give the answers. The refusals are those of `rewrite`.
+    /// The normalised query, and the reachable queries without hidden roles that a replacement by
+    /// an inclusion with `some` on the right makes of a reachable one, each once, beside the count
+    /// of all reachable queries. Over facts to which nothing can be added they give the answers.
+    /// The refusals are those of `rewrite`.
     pub fn counted_core(&self, cq: &Cq, room: u32) -> Result<CountedRewriting, RewriteFault>
         requires query { IsQuery cq.now }
         requires plain { IsPlain self.now.roles cq.now }
-        ensures members { IfOk result (λ core. Lists (PlainCore self.now cq.now) core.members.items) }
+        ensures members { IfOk result (λ core.
+            Lists (PlainCore self.now cq.now) core.members.items) }
         ensures count { IfOk result (λ core. HoldsOf (Reachable self.now cq.now) core.reached) }
         ensures few { IfOk result (λ core. core.reached ≤ room) }
         ensures within { IfOk result (λ _. HoldsOfMore (Reachable self.now cq.now) room → ⊥) }
-        ensures many { result ≡ Err RewriteFault.TooManyRewritings → HoldsOfMore (Reachable self.now cq.now) room }
+        ensures many { result ≡ Err RewriteFault.TooManyRewritings
+            → HoldsOfMore (Reachable self.now cq.now) room }
     {
         match self.reach(cq, room) {
             Ok(found) => match self.core(cq, found.as_slice()) {
@@ -253,16 +275,19 @@ impl Rewriter {
         }
     }
 
-    /// The rewriting, its core and the count of the reachable queries, in one pass. The refusals are those of `rewrite`.
+    /// The rewriting, its core and the count of the reachable queries, in one pass. The refusals
+    /// are those of `rewrite`.
     pub fn whole_and_core(&self, cq: &Cq, room: u32) -> Result<WholeAndCore, RewriteFault>
         requires query { IsQuery cq.now }
         requires plain { IsPlain self.now.roles cq.now }
-        ensures whole { IfOk result (λ both. Lists (PlainReachable self.now cq.now) both.whole.items) }
+        ensures whole { IfOk result (λ both.
+            Lists (PlainReachable self.now cq.now) both.whole.items) }
         ensures core { IfOk result (λ both. Lists (PlainCore self.now cq.now) both.core.items) }
         ensures count { IfOk result (λ both. HoldsOf (Reachable self.now cq.now) both.reached) }
         ensures few { IfOk result (λ both. both.reached ≤ room) }
         ensures within { IfOk result (λ _. HoldsOfMore (Reachable self.now cq.now) room → ⊥) }
-        ensures many { result ≡ Err RewriteFault.TooManyRewritings → HoldsOfMore (Reachable self.now cq.now) room }
+        ensures many { result ≡ Err RewriteFault.TooManyRewritings
+            → HoldsOfMore (Reachable self.now cq.now) room }
     {
         match self.reach(cq, room) {
             Ok(found) => {
@@ -286,7 +311,8 @@ impl Rewriter {
         requires plain { IsPlain self.now.roles cq.now }
         ensures members { IfOk result (λ members. Lists (PlainCore self.now cq.now) members.items) }
         ensures within { IfOk result (λ _. HoldsOfMore (Reachable self.now cq.now) room → ⊥) }
-        ensures many { result ≡ Err RewriteFault.TooManyRewritings → HoldsOfMore (Reachable self.now cq.now) room }
+        ensures many { result ≡ Err RewriteFault.TooManyRewritings
+            → HoldsOfMore (Reachable self.now cq.now) room }
     {
         match self.counted_core(cq, room) {
             Ok(core) => Ok(core.members),
@@ -299,7 +325,8 @@ impl Rewriter {
         requires query { IsQuery cq.now }
         requires plain { IsPlain self.now.roles cq.now }
         requires found { Lists (Reachable self.now cq.now) found.keys }
-        ensures whole { IfOk result (λ parts. Lists (PlainReachable self.now cq.now) parts.0.items) }
+        ensures whole { IfOk result (λ parts.
+            Lists (PlainReachable self.now cq.now) parts.0.items) }
         ensures core { IfOk result (λ parts. Lists (PlainCore self.now cq.now) parts.1.items) }
     {
         let core = self.core(cq, found.as_slice())?;
@@ -321,7 +348,9 @@ impl Rewriter {
     }
 }
 
-/// The queries whose answers over a snapshot's facts alone are the certain answers of the query: the distinct reachable ones that name no hidden role, in an order of the call's choice. `TooManyRewritings` comes exactly where more than `room` queries are reachable.
+/// The queries whose answers over a snapshot's facts alone are the certain answers of the query:
+/// the distinct reachable ones that name no hidden role, in an order of the call's choice.
+/// `TooManyRewritings` comes exactly where more than `room` queries are reachable.
 pub fn rewrite(
     alloc: Global,
     ontology: &Ontology,
@@ -330,10 +359,16 @@ pub fn rewrite(
 ) -> Result<Vec<Cq>, RewriteFault>
     requires query { IsQuery cq.now }
     requires declared { IsQueryOver ontology.now cq.now }
-    ensures members { IfOk result (λ members. Lists (PlainReachable (encoded ontology.now) cq.now) members.items) }
-    ensures answers { IfOk result (λ members. (snapshot : List Fact) (row : List IndId) → IsOverOntology ontology.now snapshot → SomeGives (Contains members.items) snapshot row ↔ Certain ontology.now.inclusions cq.now snapshot row) }
-    ensures within { IfOk result (λ _. HoldsOfMore (Reachable (encoded ontology.now) cq.now) room → ⊥) }
-    ensures many { result ≡ Err RewriteFault.TooManyRewritings → HoldsOfMore (Reachable (encoded ontology.now) cq.now) room }
+    ensures members { IfOk result (λ members.
+        Lists (PlainReachable (encoded ontology.now) cq.now) members.items) }
+    ensures answers { IfOk result (λ members. (snapshot : List Fact) (row : List IndId)
+        → IsOverOntology ontology.now snapshot
+        → SomeGives (Contains members.items) snapshot row
+        ↔ Certain ontology.now.inclusions cq.now snapshot row) }
+    ensures within { IfOk result (λ _. HoldsOfMore (Reachable (encoded ontology.now) cq.now) room
+        → ⊥) }
+    ensures many { result ≡ Err RewriteFault.TooManyRewritings
+        → HoldsOfMore (Reachable (encoded ontology.now) cq.now) room }
 {
     match Rewriter::new(alloc, ontology) {
         Ok(rewriter) => rewriter.rewrite(cq, room),
@@ -341,7 +376,8 @@ pub fn rewrite(
     }
 }
 
-/// How many queries are reachable, those with hidden roles counted too. `TooManyRewritings` comes exactly where they are more than `room`.
+/// How many queries are reachable, those with hidden roles counted too. `TooManyRewritings` comes
+/// exactly where they are more than `room`.
 pub fn reach_count(
     alloc: Global,
     ontology: &Ontology,
@@ -350,8 +386,10 @@ pub fn reach_count(
 ) -> Result<u32, RewriteFault>
     requires { IsQuery cq.now }
     ensures count { IfOk result (λ count. HoldsOf (Reachable (encoded ontology.now) cq.now) count) }
-    ensures within { IfOk result (λ _. HoldsOfMore (Reachable (encoded ontology.now) cq.now) room → ⊥) }
-    ensures many { result ≡ Err RewriteFault.TooManyRewritings → HoldsOfMore (Reachable (encoded ontology.now) cq.now) room }
+    ensures within { IfOk result (λ _. HoldsOfMore (Reachable (encoded ontology.now) cq.now) room
+        → ⊥) }
+    ensures many { result ≡ Err RewriteFault.TooManyRewritings
+        → HoldsOfMore (Reachable (encoded ontology.now) cq.now) room }
 {
     match Rewriter::new(alloc, ontology) {
         Ok(rewriter) => rewriter.reach_count(cq, room),
@@ -359,7 +397,10 @@ pub fn reach_count(
     }
 }
 
-/// The queries whose answers over a saturated snapshot are the certain answers of the query: the normalised one, and the reachable ones without hidden roles that a replacement by an inclusion with `some` on the right makes of a reachable one, each once. The refusals are those of `rewrite`.
+/// The queries whose answers over a saturated snapshot are the certain answers of the query: the
+/// normalised one, and the reachable ones without hidden roles that a replacement by an inclusion
+/// with `some` on the right makes of a reachable one, each once. The refusals are those of
+/// `rewrite`.
 pub fn rewrite_core(
     alloc: Global,
     ontology: &Ontology,
@@ -368,10 +409,16 @@ pub fn rewrite_core(
 ) -> Result<Vec<Cq>, RewriteFault>
     requires query { IsQuery cq.now }
     requires declared { IsQueryOver ontology.now cq.now }
-    ensures members { IfOk result (λ members. Lists (PlainCore (encoded ontology.now) cq.now) members.items) }
-    ensures answers { IfOk result (λ members. (snapshot facts : List Fact) (row : List IndId) → IsOverOntology ontology.now snapshot → IsSaturated ontology.now snapshot facts → SomeGives (Contains members.items) facts row ↔ Certain ontology.now.inclusions cq.now snapshot row) }
-    ensures within { IfOk result (λ _. HoldsOfMore (Reachable (encoded ontology.now) cq.now) room → ⊥) }
-    ensures many { result ≡ Err RewriteFault.TooManyRewritings → HoldsOfMore (Reachable (encoded ontology.now) cq.now) room }
+    ensures members { IfOk result (λ members.
+        Lists (PlainCore (encoded ontology.now) cq.now) members.items) }
+    ensures answers { IfOk result (λ members. (snapshot facts : List Fact) (row : List IndId)
+        → IsOverOntology ontology.now snapshot → IsSaturated ontology.now snapshot facts
+        → SomeGives (Contains members.items) facts row
+        ↔ Certain ontology.now.inclusions cq.now snapshot row) }
+    ensures within { IfOk result (λ _. HoldsOfMore (Reachable (encoded ontology.now) cq.now) room
+        → ⊥) }
+    ensures many { result ≡ Err RewriteFault.TooManyRewritings
+        → HoldsOfMore (Reachable (encoded ontology.now) cq.now) room }
 {
     match Rewriter::new(alloc, ontology) {
         Ok(rewriter) => rewriter.rewrite_core(cq, room),

@@ -1,7 +1,11 @@
-ghost use Rattle.std.specs.Prelude.{◌≡◌, ◌==◌, ◌<◌, ◌^◌, ◌++◌, ◌∷◌, [], ℕ, length, IfOk, OnOk, if◌then◌else◌};
+//! Inclusions, found by what stands on their right side.
+
+ghost use Rattle.std.specs.Prelude.{◌≡◌, ◌==◌, ◌<◌, ◌^◌, ◌++◌, ◌∷◌, [], ℕ, length, IfOk, OnOk};
+ghost use Rattle.std.specs.Prelude.{if◌then◌else◌};
 ghost use Rattle.std.specs.List.{All};
 ghost use Rattle.dl_syntax.specs.Encode.{IsUnqualified};
-ghost use Rattle.perfect_ref.specs.Rules.{number_on as number_of, IsIndex, IsCandidates, IsNullMakers};
+ghost use Rattle.perfect_ref.specs.Rules.{number_on as number_of, IsIndex, IsCandidates};
+ghost use Rattle.perfect_ref.specs.Rules.{IsNullMakers};
 
 use dl_syntax::{Atom, Basic, Inclusion, Memory};
 use std::alloc::Global;
@@ -38,7 +42,10 @@ impl Model for Rules {
 
     ghost view = { λ r. r.inclusions.items };
 
-    ghost invariant = { λ r. All IsUnqualified r.inclusions.items × IsIndex Concept r.inclusions.items r.concepts.items × IsIndex Exists r.inclusions.items r.existentials.items × IsIndex Role r.inclusions.items r.roles.items };
+    ghost invariant = { λ r. All IsUnqualified r.inclusions.items
+        × IsIndex Concept r.inclusions.items r.concepts.items
+        × IsIndex Exists r.inclusions.items r.existentials.items
+        × IsIndex Role r.inclusions.items r.roles.items };
 }
 
 /// The number of the concept or role on the right, where what stands there is of the kind.

@@ -1,9 +1,12 @@
+//! The queries to which one step leads.
+
 ghost use Rattle.std.specs.Prelude.{◌≡◌, ◌++◌, ◌<◌, ℕ, length, OnOk};
 ghost use Rattle.std.specs.List.{All};
 ghost use Rattle.dl_syntax.specs.Encode.{IsUnqualified};
 ghost use Rattle.dl_syntax.specs.Queries.{IsQuery};
 ghost use Rattle.query_unify.specs.Reach.{Replaces, Reduces, Step};
-ghost use Rattle.perfect_ref.specs.Found.{Gains, Somewhere, IsReplacement, IsNullReplacement, IsReductAt, IsReduct};
+ghost use Rattle.perfect_ref.specs.Found.{Gains, Somewhere, IsReplacement, IsNullReplacement};
+ghost use Rattle.perfect_ref.specs.Found.{IsReductAt, IsReduct};
 
 use crate::rules::Rules;
 use dl_syntax::{Cq, Inclusion, Memory};
@@ -22,7 +25,8 @@ fn push_replacement(
     requires query { IsQuery cq.now }
     requires within { place < length cq.now.body }
     requires unqualified { IsUnqualified inclusion.now }
-    ensures { OnOk result (Gains (Replaces inclusion.now place cq.now) out.old.items out.new.items) }
+    ensures { OnOk result (Gains (Replaces inclusion.now place cq.now) out.old.items
+        out.new.items) }
 {
     match step(alloc, cq, inclusion, place)? {
         Some(next) => {
@@ -44,7 +48,8 @@ fn push_replacements(
     requires query { IsQuery cq.now }
     requires within { place < length cq.now.body }
     requires unqualified { All IsUnqualified inclusions.now }
-    ensures { OnOk result (Gains (IsReplacement inclusions.now cq.now place) out.old.items out.new.items) }
+    ensures { OnOk result (Gains (IsReplacement inclusions.now cq.now place) out.old.items
+        out.new.items) }
 {
     for inclusion in inclusions {
         push_replacement(alloc, inclusion, cq, place, out)?;
@@ -102,7 +107,8 @@ fn push_reducts(alloc: Global, cq: &Cq, out: &mut Vec<Cq>) -> Result<(), Memory>
 fn push_at(rules: &Rules, cq: &Cq, place: u16, out: &mut Vec<Cq>) -> Result<(), Memory>
     requires query { IsQuery cq.now }
     requires within { place < length cq.now.body }
-    ensures { OnOk result (Gains (IsReplacement rules.now cq.now place) out.old.items out.new.items) }
+    ensures { OnOk result (Gains (IsReplacement rules.now cq.now place) out.old.items
+        out.new.items) }
 {
     let atom = &cq.body.as_slice()[place as usize];
     push_replacements(rules.alloc(), rules.candidates(atom), cq, place, out)?;
@@ -112,7 +118,8 @@ fn push_at(rules: &Rules, cq: &Cq, place: u16, out: &mut Vec<Cq>) -> Result<(), 
 /// Adds what the inclusions make of the query.
 fn push_everywhere(rules: &Rules, cq: &Cq, out: &mut Vec<Cq>) -> Result<(), Memory>
     requires { IsQuery cq.now }
-    ensures { OnOk result (Gains (Somewhere (IsReplacement rules.now cq.now) (length cq.now.body)) out.old.items out.new.items) }
+    ensures { OnOk result (Gains (Somewhere (IsReplacement rules.now cq.now) (length cq.now.body))
+        out.old.items out.new.items) }
 {
     let count = cq.body.as_slice().len();
     for place in 0..count {
@@ -125,7 +132,8 @@ fn push_everywhere(rules: &Rules, cq: &Cq, out: &mut Vec<Cq>) -> Result<(), Memo
 fn push_with_null_at(rules: &Rules, cq: &Cq, place: u16, out: &mut Vec<Cq>) -> Result<(), Memory>
     requires query { IsQuery cq.now }
     requires within { place < length cq.now.body }
-    ensures { OnOk result (Gains (IsNullReplacement rules.now cq.now place) out.old.items out.new.items) }
+    ensures { OnOk result (Gains (IsNullReplacement rules.now cq.now place) out.old.items
+        out.new.items) }
 {
     let atom = &cq.body.as_slice()[place as usize];
     push_replacements(rules.alloc(), rules.null_makers(atom), cq, place, out)
@@ -134,7 +142,8 @@ fn push_with_null_at(rules: &Rules, cq: &Cq, place: u16, out: &mut Vec<Cq>) -> R
 /// Adds what the inclusions that make nulls make of the query.
 pub(crate) fn push_with_nulls(rules: &Rules, cq: &Cq, out: &mut Vec<Cq>) -> Result<(), Memory>
     requires { IsQuery cq.now }
-    ensures { OnOk result (Gains (Somewhere (IsNullReplacement rules.now cq.now) (length cq.now.body)) out.old.items out.new.items) }
+    ensures { OnOk result (Gains (Somewhere (IsNullReplacement rules.now cq.now)
+        (length cq.now.body)) out.old.items out.new.items) }
 {
     let count = cq.body.as_slice().len();
     for place in 0..count {

@@ -1,5 +1,6 @@
 -- The set of the weak nodes, as far as the search has come.
-use Rattle.std.proofs.Common.{◌≡◌, ℕ, ◌+◌, ◌<◌, ◌≤◌, ◌^◌, Bool, true, false, List, length, bit_or, refl, sym, subst, arith, inl, inr}
+use Rattle.std.proofs.Common.{◌≡◌, ℕ, ◌+◌, ◌<◌, ◌≤◌, ◌^◌, Bool, true, false, List, length, bit_or}
+use Rattle.std.proofs.Common.{refl, sym, subst, arith, inl, inr}
 use Rattle.std.specs.Prelude.{◌↔◌, Some, slice_get, if◌then◌else◌}
 use Rattle.std.proofs.lemmas.Bool.{cases_lt, false≢true}
 use Rattle.std.proofs.lemmas.Option.{slice_get_within}
@@ -14,7 +15,8 @@ use Rattle.progression.proofs.OwnSets.{Has-or_cases, Has-pow_only}
 use Rattle.progression.proofs.Pushes.{number_at-before, number_at-future, number_at-other, one_node}
 
 pub record IsWeakTo (nodes : List Node) (i set : ℕ) : Type 0 where
-  pub each : (place : ℕ) (n : Node) → place < i → slice_get nodes place ≡ Some n → is_future n ≡ true → Has set (number_at nodes place) ↔ IsWeakNode n
+  pub each : (place : ℕ) (n : Node) → place < i → slice_get nodes place ≡ Some n
+      → is_future n ≡ true → Has set (number_at nodes place) ↔ IsWeakNode n
   pub none : (k : ℕ) → number_at nodes i ≤ k → Has set k → ⊥
 
 weak_node : (n : Node) → is_weak n ≡ true → IsWeakNode n
@@ -33,9 +35,14 @@ weak_future (node.Always f) weak = refl
 weak_future _ weak = absurd (false≢true weak)
 
 pub IsWeakTo-start : (nodes : List Node) → IsWeakTo nodes 0 0
-IsWeakTo-start nodes = record { each = λ place n within at future. absurd (omega (arith, within)); none = λ k le has. has refl }
+IsWeakTo-start nodes = record {
+  each =
+      λ place n within at future. absurd (omega (arith, within));
+  none = λ k le has. has refl;
+}
 
-module _ (nodes : List Node) (i set : ℕ) (weak : IsWeakTo nodes i set) (m : Node) (there : slice_get nodes i ≡ Some m) where
+module _ (nodes : List Node) (i set : ℕ) (weak : IsWeakTo nodes i set) (m : Node)
+    (there : slice_get nodes i ≡ Some m) where
   abbrev number : ℕ
   number = number_at nodes i
 
@@ -43,21 +50,33 @@ module _ (nodes : List Node) (i set : ℕ) (weak : IsWeakTo nodes i set) (m : No
   more is = record {
     each = λ place n within at future. elim (cases_lt place i) [
       | inl early ↦
-          let less : number_at nodes place < number = number_at-before nodes place i n at future early in
+          let less : number_at nodes place < number =
+          number_at-before nodes place i n at future early in
           let before = weak.each place n early at future in (
-            λ has. before.0 (elim (Has-or_cases set (2 ^ number) (number_at nodes place) has) [ inl x ↦ x | inr y ↦ absurd (omega (arith, less, Has-pow_only number (number_at nodes place) y)) ]),
+            λ has. before.0 (elim (Has-or_cases set (2 ^ number) (number_at nodes place) has) [
+              | inl x ↦ x
+              | inr y ↦
+                  absurd (omega (arith, less, Has-pow_only number (number_at nodes place) y))
+            ]),
             λ node. Has-or_left set (2 ^ number) (number_at nodes place) (before.1 node),
           )
       | inr late ↦
           let same : i ≡ place = omega arith in
-          let one : m ≡ n = one_node nodes place m n (subst (λ (p : ℕ). slice_get nodes p ≡ Some m) same there) at in (
+          let one : m ≡ n =
+          one_node nodes place m n (subst (λ (p : ℕ). slice_get nodes p ≡ Some m) same there)
+          at in (
             λ has. subst IsWeakNode one (weak_node m is),
-            λ node. subst (λ (p : ℕ). Has (bit_or set (2 ^ number)) (number_at nodes p)) same (Has-or_right set (2 ^ number) number (Has-pow number)),
+            λ node. subst (λ (p : ℕ). Has (bit_or set (2 ^ number)) (number_at nodes p)) same
+                (Has-or_right set (2 ^ number) number (Has-pow number)),
           )
     ];
     none = λ k le has.
-        let next : number_at nodes (i + 1) ≡ number + 1 = number_at-future nodes i m there (weak_future m is) in
-        elim (Has-or_cases set (2 ^ number) k has) [ inl x ↦ weak.none k (omega (arith, le, next)) x | inr y ↦ omega (arith, le, next, Has-pow_only number k y) ];
+        let next : number_at nodes (i + 1) ≡ number + 1 =
+        number_at-future nodes i m there (weak_future m is) in
+        elim (Has-or_cases set (2 ^ number) k has) [
+          | inl x ↦ weak.none k (omega (arith, le, next)) x
+          | inr y ↦ omega (arith, le, next, Has-pow_only number k y)
+        ];
   }
 
   same_set : is_weak m ≡ false → IsWeakTo nodes (i + 1) set
@@ -66,8 +85,11 @@ module _ (nodes : List Node) (i set : ℕ) (weak : IsWeakTo nodes i set) (m : No
       | inl early ↦ weak.each place n early at future
       | inr late ↦
           let same : i ≡ place = omega arith in
-          let one : m ≡ n = one_node nodes place m n (subst (λ (p : ℕ). slice_get nodes p ≡ Some m) same there) at in (
-            λ has. absurd (weak.none (number_at nodes place) (subst (λ (p : ℕ). number ≤ number_at nodes p) same (omega arith)) has),
+          let one : m ≡ n =
+          one_node nodes place m n (subst (λ (p : ℕ). slice_get nodes p ≡ Some m) same there)
+          at in (
+            λ has. absurd (weak.none (number_at nodes place)
+                (subst (λ (p : ℕ). number ≤ number_at nodes p) same (omega arith)) has),
             λ node. absurd (not_weak_node m other (subst IsWeakNode (sym one) node)),
           )
     ];
@@ -81,9 +103,12 @@ module _ (nodes : List Node) (i set : ℕ) (weak : IsWeakTo nodes i set) (m : No
   pub IsWeakTo-step : (new : ℕ) → new ≡ with_weak set number m → IsWeakTo nodes (i + 1) new
   IsWeakTo-step new is = subst (IsWeakTo nodes (i + 1)) (sym is) (go (is_weak m) refl)
     where
-      go : (b : Bool) → is_weak m ≡ b → IsWeakTo nodes (i + 1) (if b then bit_or set (2 ^ number) else set)
+      go : (b : Bool) → is_weak m ≡ b
+          → IsWeakTo nodes (i + 1) (if b then bit_or set (2 ^ number) else set)
       go true is = more is
       go false other = same_set other
 
-pub IsWeakTo-end : (nodes : List Node) (i set : ℕ) → length nodes ≤ i → IsWeakTo nodes i set → IsWeakSet nodes set
-IsWeakTo-end nodes i set past weak place n at future = weak.each place n (omega (arith, past, slice_get_within nodes place n at)) at future
+pub IsWeakTo-end : (nodes : List Node) (i set : ℕ) → length nodes ≤ i → IsWeakTo nodes i set
+    → IsWeakSet nodes set
+IsWeakTo-end nodes i set past weak place n at future =
+    weak.each place n (omega (arith, past, slice_get_within nodes place n at)) at future

@@ -1,3 +1,5 @@
+//! What is kept of a query after one more snapshot, and its answers.
+
 ghost use Rattle.std.specs.Prelude.{◌≡◌, ◌+◌, ◌-◌, ◌≤◌, ◌^◌, min, nat_eq, length, IfOk, List, ℕ};
 ghost use Rattle.std.specs.List.{All};
 ghost use Rattle.dl_syntax.specs.declared.facts.Fact.{Fact};
@@ -6,7 +8,8 @@ ghost use Rattle.formula_store.specs.Interned.{Extends};
 ghost use Rattle.answer_tables.specs.Combining.{LinksAreIn};
 ghost use Rattle.tcq_syntax.specs.Tcq.{IsTcq};
 ghost use Rattle.tcq_syntax.specs.Histories.{History, with_snapshot};
-ghost use Rattle.progression.specs.Kept.{Fits, StandsFor, AreOverLeaves, AreLeafAnswers, AreRows, AreRootRows, Advances};
+ghost use Rattle.progression.specs.Kept.{Fits, StandsFor, AreOverLeaves, AreLeafAnswers, AreRows};
+ghost use Rattle.progression.specs.Kept.{AreRootRows, Advances};
 ghost use Rattle.progression.specs.Tables.{AreTables};
 ghost use Rattle.answer_tables.specs.Substituting.{HaveShape};
 
@@ -34,7 +37,9 @@ fn query_tables(
     requires fits { Fits query.now slots kept.now }
     requires few { slots ^ query.now.vars ≤ 2 ^ 60 }
     requires leaves { AreOverLeaves query.now leaves.now }
-    ensures tables { IfOk result (λ tables. AreTables query.now.nodes slots query.now.vars (nat_eq kept.now.count 0) kept.now.tables.items leaves.now store.new (length query.now.nodes) tables.items) }
+    ensures tables { IfOk result (λ tables.
+        AreTables query.now.nodes slots query.now.vars (nat_eq kept.now.count 0)
+        kept.now.tables.items leaves.now store.new (length query.now.nodes) tables.items) }
     ensures valid { IsTcq query.now.vars query.now.nodes }
     ensures grown { Extends store.old store.new }
 {
@@ -81,8 +86,13 @@ pub fn advance(
     ensures fits { IfOk result (λ r. Fits query.now slots r.0) }
     ensures count { IfOk result (λ r. r.0.count ≡ min (kept.now.count + 1) (2 ^ 64 - 1)) }
     ensures rows { IfOk result (λ r. AreRows query.now slots r.1) }
-    ensures advances { IfOk result (λ r. (inclusions : List Inclusion) (history : History) (snapshot : List Fact) → StandsFor inclusions slots history query.now kept.now → AreLeafAnswers inclusions snapshot query.now leaves.now → Advances inclusions slots (with_snapshot snapshot history) query.now r.0 r.1.rows) }
-    ensures stored { IfOk result (λ r. All (λ entry. LinksAreIn entry.1 store.new) r.0.tables.items) }
+    ensures advances { IfOk result (λ r.
+        (inclusions : List Inclusion) (history : History) (snapshot : List Fact)
+        → StandsFor inclusions slots history query.now kept.now
+        → AreLeafAnswers inclusions snapshot query.now leaves.now
+        → Advances inclusions slots (with_snapshot snapshot history) query.now r.0 r.1.rows) }
+    ensures stored { IfOk result (λ r.
+        All (λ entry. LinksAreIn entry.1 store.new) r.0.tables.items) }
     ensures grown { Extends store.old store.new }
 {
     let tables = query_tables(alloc, query, slots, kept, leaves, made, store)?;

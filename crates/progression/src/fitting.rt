@@ -1,4 +1,7 @@
-ghost use Rattle.std.specs.Prelude.{◌≡◌, ◌<◌, ◌≤◌, ◌↔◌, IsTrue, List, ℕ, true, length, map, slice_index_or};
+//! Whether what is kept fits a query.
+
+ghost use Rattle.std.specs.Prelude.{◌≡◌, ◌<◌, ◌≤◌, ◌↔◌, IsTrue, List, ℕ, true, length, map};
+ghost use Rattle.std.specs.Prelude.{slice_index_or};
 ghost use Rattle.std.specs.List.{All, AllPairs, Contains, count_by};
 ghost use Rattle.dl_syntax.specs.declared.names.IndId.{IndId};
 ghost use Rattle.answer_tables.specs.Tuples.{IsTuple};
@@ -53,21 +56,21 @@ fn future_sets(nodes: &[Node]) -> [u8; 64]
     sets
 }
 
-/// Whether each set of the chain lies inside.
+/// Whether each set of the antichain lies inside.
 fn is_within(link: &Link, own: u8) -> bool
     ensures { IsTrue result ↔ All (λ set. Inside set own) link.now }
 {
-    link.chain().sets().iter().all(|set| set & own == *set)
+    link.antichain().sets().iter().all(|set| set & own == *set)
 }
 
-/// Whether each set of each chain lies inside.
+/// Whether each set of each antichain lies inside.
 fn are_within(links: &[Link], own: u8) -> bool
-    ensures { IsTrue result ↔ All (λ chain. All (λ set. Inside set own) chain) links.now }
+    ensures { IsTrue result ↔ All (λ antichain. All (λ set. Inside set own) antichain) links.now }
 {
     links.iter().all(|link| is_within(link, own))
 }
 
-/// Whether each chain of the table has only sets that lie inside.
+/// Whether each antichain of the table has only sets that lie inside.
 fn has_sets_within(table: &Table, own: u8) -> bool
     ensures { IsTrue result ↔ HasSetsWithin own table.now }
 {
@@ -130,7 +133,8 @@ fn has_place(tables: &[(u16, Table)], place: u16) -> bool
 /// Whether there is a table for the node at the place, if it is kept.
 fn is_complete_at(query: &Query, tables: &[(u16, Table)], place: u16) -> bool
     requires { place < length query.now.nodes }
-    ensures { IsTrue result ↔ (IsKept query.now.nodes place → Contains (map (λ entry. entry.0) tables.now) place) }
+    ensures { IsTrue result ↔ (IsKept query.now.nodes place
+        → Contains (map (λ entry. entry.0) tables.now) place) }
 {
     !is_kept(query, place) || has_place(tables, place)
 }

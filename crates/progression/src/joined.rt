@@ -5,7 +5,7 @@ ghost use Rattle.std.specs.List.{All};
 ghost use Rattle.dl_syntax.specs.declared.names.IndId.{IndId};
 ghost use Rattle.tcq_syntax.specs.Formula.{HasChildrenBelow};
 ghost use Rattle.antichains.specs.Sets.{holds};
-ghost use Rattle.antichains.specs.Chain.{IsChain};
+ghost use Rattle.antichains.specs.Antichain.{IsAntichain};
 ghost use Rattle.formula_store.specs.Interned.{Extends};
 ghost use Rattle.answer_tables.specs.Tuples.{IsTuple};
 ghost use Rattle.answer_tables.specs.Table.{at};
@@ -31,7 +31,8 @@ fn either(
 ) -> Result<Table, Memory>
     requires slots { f.now.slots ≡ g.now.slots }
     requires arity { f.now.arity ≡ g.now.arity }
-    ensures table { IfOk result (Tabulates f.now.slots f.now.arity (λ tuple v. holds (at f.now tuple) v || holds (at g.now tuple) v) store.new) }
+    ensures table { IfOk result (Tabulates f.now.slots f.now.arity (λ tuple v.
+        holds (at f.now tuple) v || holds (at g.now tuple) v) store.new) }
     ensures grown { Extends store.old store.new }
 {
     made.either(number, alloc, f, g, store)
@@ -48,7 +49,8 @@ fn both(
 ) -> Result<Table, Memory>
     requires slots { f.now.slots ≡ g.now.slots }
     requires arity { f.now.arity ≡ g.now.arity }
-    ensures table { IfOk result (Tabulates f.now.slots f.now.arity (λ tuple v. holds (at f.now tuple) v && holds (at g.now tuple) v) store.new) }
+    ensures table { IfOk result (Tabulates f.now.slots f.now.arity (λ tuple v.
+        holds (at f.now tuple) v && holds (at g.now tuple) v) store.new) }
     ensures grown { Extends store.old store.new }
 {
     made.both(number, alloc, f, g, store)
@@ -68,7 +70,9 @@ fn widened(
     requires arity { f.now.arity ≡ g.now.arity }
     requires own_slots { f.now.slots ≡ own.now.slots }
     requires own_arity { f.now.arity ≡ own.now.arity }
-    ensures table { IfOk result (Tabulates f.now.slots f.now.arity (λ tuple v. holds (at g.now tuple) v || (holds (at f.now tuple) v && holds (at own.now tuple) v)) store.new) }
+    ensures table { IfOk result (Tabulates f.now.slots f.now.arity (λ tuple v.
+        holds (at g.now tuple) v || (holds (at f.now tuple) v && holds (at own.now tuple) v))
+        store.new) }
     ensures grown { Extends store.old store.new }
 {
     let number = 3 * place as usize + 1;
@@ -89,7 +93,8 @@ pub fn join(
     requires children { HasChildrenBelow (length tables.now) node.now }
     requires shape { HaveShape own.slots own.arity tables.now }
     requires own { IsOwn own store.old }
-    ensures table { IfOk result (Tabulates own.slots own.arity (λ tuple. joined (λ c. at (table_at tables.now c) tuple) (holds (at own tuple)) node.now) store.new) }
+    ensures table { IfOk result (Tabulates own.slots own.arity (λ tuple.
+        joined (λ c. at (table_at tables.now c) tuple) (holds (at own tuple)) node.now) store.new) }
     ensures grown { Extends store.old store.new }
 {
     let number = 3 * place as usize + 1;

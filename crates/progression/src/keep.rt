@@ -34,7 +34,8 @@ pub fn kept_tables(
 ) -> Result<Vec<(u16, Table)>, Memory>
     requires long { length tables.items ≡ length query.now.nodes }
     requires few { length query.now.nodes ≤ 64 }
-    ensures { IfOk result (λ kept. AreKeptOf query.now.nodes (length query.now.nodes) tables.items kept.items) }
+    ensures { IfOk result (λ kept.
+        AreKeptOf query.now.nodes (length query.now.nodes) tables.items kept.items) }
 {
     let mut kept = Vec::new(alloc);
     let mut place = 0;

@@ -1,3 +1,5 @@
+//! What is kept of a query.
+
 ghost use Rattle.std.specs.Prelude.{List, ℕ, Bool};
 ghost use Rattle.dl_syntax.specs.declared.ontology.Inclusion.{Inclusion};
 ghost use Rattle.tcq_syntax.specs.Tcq.{Tcq};
@@ -12,14 +14,15 @@ use std::alloc::Global;
 pub struct Kept {
     /// How many snapshots came, or the greatest number where there were more.
     pub count: u64,
-    /// For each kept node, by its place, the chain of each tuple.
+    /// For each kept node, by its place, the antichain of each tuple.
     pub tables: Vec<(u16, Table)>,
 }
 
 /// What is kept of any query before the first snapshot.
 pub fn start(alloc: Global) -> Kept
     ensures fits { (query : Tcq) (slots : ℕ) → Fits query slots result }
-    ensures stands { (inclusions : List Inclusion) (slots : ℕ) (query : Tcq) (closed : Bool) → StandsFor inclusions slots (empty_history closed) query result }
+    ensures stands { (inclusions : List Inclusion) (slots : ℕ) (query : Tcq) (closed : Bool)
+        → StandsFor inclusions slots (empty_history closed) query result }
 {
     Kept {
         count: 0,

@@ -1,20 +1,22 @@
 //! What a node asks besides its children, as a table.
 
-ghost use Rattle.std.specs.Prelude.{◌≡◌, ◌<◌, ◌≤◌, ◌^◌, ◌&&◌, ◌||◌, not, true, false, IfOk, length, map, ℕ};
+ghost use Rattle.std.specs.Prelude.{◌≡◌, ◌<◌, ◌≤◌, ◌^◌, ◌&&◌, ◌||◌, not, true, false, IfOk, length};
+ghost use Rattle.std.specs.Prelude.{map, ℕ};
 ghost use Rattle.std.specs.List.{All};
 ghost use Rattle.antichains.specs.Sets.{is_inside, holds};
-ghost use Rattle.antichains.specs.Chain.{values_at};
+ghost use Rattle.antichains.specs.Antichain.{values_at};
 ghost use Rattle.formula_store.specs.Interned.{Extends};
 ghost use Rattle.answer_tables.specs.Table.{at};
-ghost use Rattle.answer_tables.specs.Substituting.{HaveShape, chains_at};
+ghost use Rattle.answer_tables.specs.Substituting.{HaveShape, antichains_at};
 ghost use Rattle.tcq_syntax.specs.Formula.{is_future};
 ghost use Rattle.tcq_syntax.specs.Tcq.{IsLeaf};
 ghost use Rattle.progression.specs.Step.{own_test};
-ghost use Rattle.progression.specs.Tables.{Tabulates, kept_table, before_test, leaf_test, has_part, variable_of, HasLeaf, IsOverLeaf, KeptShape};
+ghost use Rattle.progression.specs.Tables.{Tabulates, kept_table, before_test, leaf_test, has_part};
+ghost use Rattle.progression.specs.Tables.{variable_of, HasLeaf, IsOverLeaf, KeptShape};
 
 use crate::Memory;
 use answer_tables::{Made, Table, fill};
-use antichains::Chain;
+use antichains::Antichain;
 use dl_syntax::{Cq, Term, Tuples};
 use formula_store::Store;
 use std::alloc::Global;
@@ -32,8 +34,8 @@ fn filled(
     ensures table { IfOk result (Tabulates slots arity (λ tuple v. value) store.new) }
     ensures grown { Extends store.old store.new }
 {
-    let chain = Chain::fixed(alloc, value)?;
-    let link = store.intern(chain)?;
+    let antichain = Antichain::fixed(alloc, value)?;
+    let link = store.intern(antichain)?;
     fill(alloc, slots, arity, &link)
 }
 
@@ -47,11 +49,12 @@ fn granted(
 ) -> Result<Table, Memory>
     requires number { number < 8 }
     requires few { slots ^ arity ≤ 2 ^ 60 }
-    ensures table { IfOk result (Tabulates slots arity (λ tuple v. is_inside (2 ^ number) v) store.new) }
+    ensures table { IfOk result (Tabulates slots arity (λ tuple v.
+        is_inside (2 ^ number) v) store.new) }
     ensures grown { Extends store.old store.new }
 {
-    let chain = Chain::one(alloc, number)?;
-    let link = store.intern(chain)?;
+    let antichain = Antichain::one(alloc, number)?;
+    let link = store.intern(antichain)?;
     fill(alloc, slots, arity, &link)
 }
 
@@ -70,7 +73,9 @@ fn before(
     requires few { slots ^ arity ≤ 2 ^ 60 }
     requires kept { KeptShape slots arity kept.now }
     requires values { HaveShape slots arity values.now }
-    ensures table { IfOk result (Tabulates slots arity (λ tuple v. holds (at (kept_table kept.now place) tuple) (values_at (chains_at values.now tuple) v)) store.new) }
+    ensures table { IfOk result (Tabulates slots arity (λ tuple v.
+        holds (at (kept_table kept.now place) tuple) (values_at (antichains_at values.now tuple) v))
+        store.new) }
     ensures grown { Extends store.old store.new }
 {
     for entry in kept {
@@ -97,7 +102,9 @@ fn strong(
     requires few { slots ^ arity ≤ 2 ^ 60 }
     requires kept { KeptShape slots arity kept.now }
     requires values { HaveShape slots arity values.now }
-    ensures table { IfOk result (Tabulates slots arity (λ tuple v. not first && holds (at (kept_table kept.now place) tuple) (values_at (chains_at values.now tuple) v)) store.new) }
+    ensures table { IfOk result (Tabulates slots arity (λ tuple v.
+        not first && holds (at (kept_table kept.now place) tuple)
+        (values_at (antichains_at values.now tuple) v)) store.new) }
     ensures grown { Extends store.old store.new }
 {
     if first {
@@ -125,7 +132,9 @@ fn weak(
     requires few { slots ^ arity ≤ 2 ^ 60 }
     requires kept { KeptShape slots arity kept.now }
     requires values { HaveShape slots arity values.now }
-    ensures table { IfOk result (Tabulates slots arity (λ tuple v. first || holds (at (kept_table kept.now place) tuple) (values_at (chains_at values.now tuple) v)) store.new) }
+    ensures table { IfOk result (Tabulates slots arity (λ tuple v.
+        first || holds (at (kept_table kept.now place) tuple)
+        (values_at (antichains_at values.now tuple) v)) store.new) }
     ensures grown { Extends store.old store.new }
 {
     if first {
@@ -175,7 +184,8 @@ fn answered(
     requires few { slots ^ arity ≤ 2 ^ 60 }
     requires leaf { IsLeaf arity q.now }
     requires over { IsOverLeaf q.now rows.now }
-    ensures table { IfOk result (Tabulates slots arity (λ tuple v. has_part rows.now.rows q.now tuple) store.new) }
+    ensures table { IfOk result (Tabulates slots arity (λ tuple v.
+        has_part rows.now.rows q.now tuple) store.new) }
     ensures grown { Extends store.old store.new }
 {
     let places = variables(alloc, q.head.as_slice())?;
@@ -204,7 +214,9 @@ pub fn own(
     requires kept { KeptShape slots arity kept.now }
     requires values { HaveShape slots arity values.now }
     requires leaf { HasLeaf arity leaves.now leaf node.now }
-    ensures table { IfOk result (Tabulates slots arity (λ tuple v. own_test first (length values.now) (before_test kept.now place values.now node.now tuple) (leaf_test leaves.now leaf node.now tuple) node.now v) store.new) }
+    ensures table { IfOk result (Tabulates slots arity (λ tuple v.
+        own_test first (length values.now) (before_test kept.now place values.now node.now tuple)
+        (leaf_test leaves.now leaf node.now tuple) node.now v) store.new) }
     ensures grown { Extends store.old store.new }
 {
     let number = 3 * place as usize;

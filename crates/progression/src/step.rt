@@ -6,7 +6,9 @@ ghost use Rattle.formula_store.specs.Interned.{Extends};
 ghost use Rattle.answer_tables.specs.Substituting.{HaveShape};
 ghost use Rattle.tcq_syntax.specs.Formula.{is_future, number_at, HasChildrenBelow, IsTable};
 ghost use Rattle.tcq_syntax.specs.Laws.{granted_place};
-ghost use Rattle.progression.specs.Tables.{Tabulates, AreTables, table_at, step_test, is_leaf, leaf_number, HasLeaf, HaveLeaves, KeptShape, values_after};
+ghost use Rattle.progression.specs.Tables.{Tabulates, AreTables, table_at, step_test, is_leaf};
+ghost use Rattle.progression.specs.Tables.{leaf_number, HasLeaf, HaveLeaves, KeptShape};
+ghost use Rattle.progression.specs.Tables.{values_after};
 
 use crate::Memory;
 use crate::joined::join;
@@ -55,7 +57,9 @@ fn node_table(
     requires leaf { HasLeaf arity leaves.now (leaf_number nodes.now (length tables.now)) node.now }
     requires tables { HaveShape slots arity tables.now }
     requires values { HaveShape slots arity values.now }
-    ensures table { IfOk result (Tabulates slots arity (step_test first kept.now leaves.now (leaf_number nodes.now (length tables.now)) (length tables.now) tables.now values.now node.now) store.new) }
+    ensures table { IfOk result (Tabulates slots arity
+        (step_test first kept.now leaves.now (leaf_number nodes.now (length tables.now))
+        (length tables.now) tables.now values.now node.now) store.new) }
     ensures grown { Extends store.old store.new }
 {
     let place = tables.len();
@@ -80,7 +84,8 @@ fn node_table(
 /// The table of what is granted with a future node.
 fn granted(node: &Node, tables: &[Table], own: &Table) -> Result<Table, Memory>
     requires { HasChildrenBelow (length tables.now) node.now }
-    ensures { IfOk result (λ t. t ≡ table_at (tables.now ++ own.now ∷ []) (granted_place (length tables.now) node.now)) }
+    ensures { IfOk result (λ t. t
+        ≡ table_at (tables.now ++ own.now ∷ []) (granted_place (length tables.now) node.now)) }
 {
     match node {
         Node::Next(f) | Node::WeakNext(f) => tables[*f as usize].copy(),
@@ -96,7 +101,8 @@ fn values_after(
     own: &Table,
 ) -> Result<Vec<Table>, Memory>
     requires { HasChildrenBelow (length tables.now) node.now }
-    ensures { IfOk result (λ new. new.items ≡ values_after tables.now values.items node.now own.now) }
+    ensures { IfOk result (λ new. new.items
+        ≡ values_after tables.now values.items node.now own.now) }
 {
     let mut values = values;
     if node.is_future() {
@@ -124,7 +130,9 @@ pub fn node_tables(
     requires futures { count_by is_future nodes.now ≤ 8 }
     requires kept { KeptShape slots arity kept.now }
     requires leaves { HaveLeaves arity nodes.now leaves.now }
-    ensures tables { IfOk result (λ tables. AreTables nodes.now slots arity first kept.now leaves.now store.new (length nodes.now) tables.items) }
+    ensures tables { IfOk result (λ tables.
+        AreTables nodes.now slots arity first kept.now leaves.now store.new (length nodes.now)
+        tables.items) }
     ensures grown { Extends store.old store.new }
 {
     let mut tables = Vec::new(alloc);

@@ -1,4 +1,5 @@
-//! The worked example: `once ([Server(?x)] & next [Failed(?x)])` over three individuals and a stranger.
+//! The worked example: `once ([Server(?x)] & next [Failed(?x)])` over three individuals and a
+//! stranger.
 ghost use Rattle.std.specs.Prelude.{◌≡◌, [], ◌∷◌, ℕ, List, IfOk, length};
 ghost use Rattle.std.specs.List.{All};
 ghost use Rattle.dl_syntax.specs.Laws.{instances};
@@ -98,7 +99,7 @@ fn first_step(
 }
 
 // Whether the only table has these sets at the individual.
-fn has_chain(kept: &Kept, individual: u32, sets: &[u8]) -> bool {
+fn has_antichain(kept: &Kept, individual: u32, sets: &[u8]) -> bool {
     let tables = kept.tables.as_slice();
     if tables.len() != 1
         || tables[0].1.slots() != 4
@@ -108,15 +109,15 @@ fn has_chain(kept: &Kept, individual: u32, sets: &[u8]) -> bool {
         return false;
     }
     let link = tables[0].1.get(&[IndId(individual)]);
-    link.chain().sets() == sets
+    link.antichain().sets() == sets
 }
 
 // Whether the table has these sets at the first individual, and holds nowhere else.
-fn has_chains(kept: &Kept, sets: &[u8]) -> bool {
-    has_chain(kept, 0, sets)
-        && has_chain(kept, 1, &[])
-        && has_chain(kept, 2, &[])
-        && has_chain(kept, 3, &[])
+fn has_antichains(kept: &Kept, sets: &[u8]) -> bool {
+    has_antichain(kept, 0, sets)
+        && has_antichain(kept, 1, &[])
+        && has_antichain(kept, 2, &[])
+        && has_antichain(kept, 3, &[])
 }
 
 #[test]
@@ -127,7 +128,7 @@ fn keeps_what_may_come(rt: HostRuntime) -> Result<(), Memory> {
     let mut store = Store::new(alloc);
     let (kept, rows) = first_step(alloc, &query, &mut made, &mut store)?;
     assert!(rt; rows.is_empty());
-    assert!(rt; has_chains(&kept, &[1]));
+    assert!(rt; has_antichains(&kept, &[1]));
     assert!(rt; fits(&query, 4, &kept));
     Ok(())
 }
@@ -141,6 +142,6 @@ fn answers_when_it_came(rt: HostRuntime) -> Result<(), Memory> {
     let (kept, _) = first_step(alloc, &query, &mut made, &mut store)?;
     let (kept, rows) = step(alloc, &query, &kept, None, Some(0), &mut made, &mut store)?;
     assert!(rt; rows.len() == 1 && rows.row(0) == [IndId(0)].as_slice());
-    assert!(rt; has_chains(&kept, &[0]));
+    assert!(rt; has_antichains(&kept, &[0]));
     Ok(())
 }

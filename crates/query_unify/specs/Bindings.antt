@@ -43,7 +43,8 @@ pub record CannotUnifyTerms (x y : Term) : Type 0 where
 pub record UnifiesPairs (s : Substitution) (a b c d : Term) : Type 0 where
   pub first : applied s a ≡ applied s b
   pub second : applied s c ≡ applied s d
-  pub general : (t : Substitution) → applied t a ≡ applied t b → applied t c ≡ applied t d → (v : ℕ) → applied t (s v) ≡ t v
+  pub general : (t : Substitution) → applied t a ≡ applied t b → applied t c ≡ applied t d → (v : ℕ)
+      → applied t (s v) ≡ t v
 
 pub record CannotUnifyPairs (a b c d : Term) : Type 0 where
   pub none : (t : Substitution) → applied t a ≡ applied t b → applied t c ≡ applied t d → ⊥

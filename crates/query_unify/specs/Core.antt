@@ -15,12 +15,13 @@ use Rattle.query_unify.specs.Normal.{normalise}
 use Rattle.query_unify.specs.Reach.{Replaces, Reduces, Reach}
 use Rattle.query_unify.specs.Laws.{Gives}
 
--- what the result of a replacement by an inclusion that makes no nulls gives in closed facts, the query
--- before gives there
+-- what the result of a replacement by an inclusion that makes no nulls gives in closed facts, the
+-- query before gives there
 abbrev pub ReplaceGoesBack : Type 0
 ReplaceGoesBack =
     (inclusions : List Inclusion) (facts : List Fact) (i : Inclusion) (place : ℕ) (q q' : Cq)
-    (elements : List Element) → IsClosed inclusions facts → Contains inclusions i → (¬ MakesNulls i) →
+    (elements : List Element) → IsClosed inclusions facts → Contains inclusions i → (¬ MakesNulls i)
+    →
     Replaces i place q q' → Gives q' facts elements → Gives q facts elements
 
 -- what a reduced query gives in any facts, the query before gives there
@@ -29,10 +30,12 @@ ReduceGoesBack =
     (facts : List Fact) (j k : ℕ) (q q' : Cq) (elements : List Element) →
     Reduces j k q q' → Gives q' facts elements → Gives q facts elements
 
--- the normalised query, or what a replacement by an inclusion that makes nulls makes of a reachable one
+-- the normalised query, or what a replacement by an inclusion that makes nulls makes of a reachable
+-- one
 pub data IsCore (inclusions : List Inclusion) (q member : Cq) : Type 0 where
   begin : member ≡ normalise q → IsCore inclusions q member
-  made : (before : Cq) (i : Inclusion) (place : ℕ) → Reach inclusions q before → Contains inclusions i
+  made : (before : Cq) (i : Inclusion) (place : ℕ) → Reach inclusions q before
+      → Contains inclusions i
       → MakesNulls i → Replaces i place before member → IsCore inclusions q member
 
 -- the certain answers are what the core gives in the saturated facts

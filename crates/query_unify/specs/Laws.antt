@@ -23,15 +23,22 @@ pub record Gives (q : Cq) (facts : List Fact) (elements : List Element) : Type 0
 
 -- a query and its normal form give the same
 abbrev pub NormalGivesSame : Type 0
-NormalGivesSame = (q : Cq) (facts : List Fact) (elements : List Element) → Gives (normalise q) facts elements ↔ Gives q facts elements
+NormalGivesSame = (q : Cq) (facts : List Fact) (elements : List Element)
+    → Gives (normalise q) facts elements ↔ Gives q facts elements
 
 -- the inclusions make the further facts from one of the run, or there are none
 abbrev pub IsContinued : List Inclusion → List Fact → List Fact → Type 0
-IsContinued inclusions run more = (more ≡ []) ⊎ ((i : Inclusion) × (f : Fact) × Contains inclusions i × Contains run f × Makes i f (length run) more)
+IsContinued inclusions run more = (more ≡ [])
+    ⊎ ((i : Inclusion) × (f : Fact) × Contains inclusions i × Contains run f
+    × Makes i f (length run) more)
 
--- what a step's result gives in a run the query before gives in this run, or in this run continued once
+-- what a step's result gives in a run the query before gives in this run, or in this run continued
+-- once
 abbrev pub StepIsSound : Type 0
-StepIsSound = (inclusions : List Inclusion) (snapshot run : List Fact) (q q' : Cq) (elements : List Element) → Step inclusions q q' → Run inclusions snapshot run → Gives q' run elements → (more : List Fact) × IsContinued inclusions run more × Run inclusions snapshot (run ++ more) × Gives q (run ++ more) elements
+StepIsSound = (inclusions : List Inclusion) (snapshot run : List Fact) (q q' : Cq)
+    (elements : List Element) → Step inclusions q q' → Run inclusions snapshot run
+    → Gives q' run elements → (more : List Fact) × IsContinued inclusions run more
+    × Run inclusions snapshot (run ++ more) × Gives q (run ++ more) elements
 
 -- a certain answer of a step's result is one of the query before
 abbrev pub StepKeepsAnswers : Type 0
@@ -47,15 +54,22 @@ ReachKeepsAnswers =
 
 -- what some reachable query gives in the snapshot's facts is a certain answer
 abbrev pub ReachIsSound : Type 0
-ReachIsSound = (inclusions : List Inclusion) (snapshot : List Fact) (q q' : Cq) (row : List IndId) → Reach inclusions q q' → Gives q' snapshot (map ind_element row) → Certain inclusions q snapshot row
+ReachIsSound = (inclusions : List Inclusion) (snapshot : List Fact) (q q' : Cq) (row : List IndId)
+    → Reach inclusions q q' → Gives q' snapshot (map ind_element row)
+    → Certain inclusions q snapshot row
 
 -- each certain answer is what some reachable query gives in the snapshot's facts
 abbrev pub ReachIsComplete : Type 0
-ReachIsComplete = (inclusions : List Inclusion) (snapshot : List Fact) (q : Cq) (row : List IndId) → All IsUnqualified inclusions → All HasNoNull snapshot → Certain inclusions q snapshot row → (q' : Cq) × Reach inclusions q q' × Gives q' snapshot (map ind_element row)
+ReachIsComplete = (inclusions : List Inclusion) (snapshot : List Fact) (q : Cq) (row : List IndId)
+    → All IsUnqualified inclusions → All HasNoNull snapshot → Certain inclusions q snapshot row
+    → (q' : Cq) × Reach inclusions q q' × Gives q' snapshot (map ind_element row)
 
 -- the certain answers are what the reachable queries give in the snapshot's facts
 abbrev pub RewritingIsExact : Type 0
-RewritingIsExact = (inclusions : List Inclusion) (snapshot : List Fact) (q : Cq) (row : List IndId) → All IsUnqualified inclusions → All HasNoNull snapshot → Certain inclusions q snapshot row ↔ ((q' : Cq) × Reach inclusions q q' × Gives q' snapshot (map ind_element row))
+RewritingIsExact = (inclusions : List Inclusion) (snapshot : List Fact) (q : Cq) (row : List IndId)
+    → All IsUnqualified inclusions → All HasNoNull snapshot
+    → Certain inclusions q snapshot row ↔ ((q' : Cq) × Reach inclusions q q'
+    × Gives q' snapshot (map ind_element row))
 
 -- all most general unifiers of the atoms at two places give one reduced query
 abbrev pub ReduceHasOneResult : Type 0
@@ -63,7 +77,8 @@ ReduceHasOneResult = (j k : ℕ) (q q' q'' : Cq) → Reduces j k q q' → Reduce
 
 -- all new variables give one query after a replacement
 abbrev pub ReplaceHasOneResult : Type 0
-ReplaceHasOneResult = (i : Inclusion) (place : ℕ) (q q' q'' : Cq) → Replaces i place q q' → Replaces i place q q'' → q' ≡ q''
+ReplaceHasOneResult = (i : Inclusion) (place : ℕ) (q q' q'' : Cq) → Replaces i place q q'
+    → Replaces i place q q'' → q' ≡ q''
 
 -- the normal form of a query within the limits is within them
 abbrev pub NormalIsQuery : Type 0
@@ -71,8 +86,10 @@ NormalIsQuery = (q : Cq) → IsQuery q → IsQuery (normalise q)
 
 -- and so is what a step leads to
 abbrev pub StepKeepsQuery : Type 0
-StepKeepsQuery = (inclusions : List Inclusion) (q q' : Cq) → Step inclusions q q' → IsQuery q → IsQuery q'
+StepKeepsQuery = (inclusions : List Inclusion) (q q' : Cq) → Step inclusions q q' → IsQuery q
+    → IsQuery q'
 
 -- a step leaves the head's length, and makes the body no longer
 abbrev pub StepIsNoLonger : Type 0
-StepIsNoLonger = (inclusions : List Inclusion) (q q' : Cq) → Step inclusions q q' → (length q'.body ≤ length q.body) × (length q'.head ≡ length q.head)
+StepIsNoLonger = (inclusions : List Inclusion) (q q' : Cq) → Step inclusions q q'
+    → (length q'.body ≤ length q.body) × (length q'.head ≡ length q.head)

@@ -1,5 +1,6 @@
 -- The normal form of a query: variables numbered by first occurrence, each atom once.
-use Rattle.std.specs.Prelude.{◌==◌, ℕ, zero, suc, Bool, true, false, if◌then◌else◌, List, [], ◌∷◌, ◌++◌}
+use Rattle.std.specs.Prelude.{◌==◌, ℕ, zero, suc, Bool, true, false, if◌then◌else◌, List, [], ◌∷◌}
+use Rattle.std.specs.Prelude.{◌++◌}
 use Rattle.std.specs.List.{filter}
 use Rattle.dl_syntax.specs.declared.queries.Term.{Term}
 use Rattle.dl_syntax.specs.declared.queries.Term.TheVariants.{Var, Ind}
@@ -15,13 +16,15 @@ same_term _ _ = false
 
 abbrev pub same_atom : Atom → Atom → Bool
 same_atom (atom.Concept c x) (atom.Concept d y) = if c.0 == d.0 then same_term x y else false
-same_atom (atom.Role p x x') (atom.Role r y y') = if p.0 == r.0 then (if same_term x y then same_term x' y' else false) else false
+same_atom (atom.Role p x x') (atom.Role r y y') =
+    if p.0 == r.0 then (if same_term x y then same_term x' y' else false) else false
 same_atom _ _ = false
 
 -- each at its first place only
 abbrev pub first_places : {X : Type 0} → (X → X → Bool) → List X → List X
 first_places same [] = []
-first_places same (x ∷ xs) = x ∷ filter (λ y. if same x y then false else true) (first_places same xs)
+first_places same (x ∷ xs) = x ∷ filter (λ y.
+    if same x y then false else true) (first_places same xs)
 
 -- the place of the number, counted from 0
 abbrev pub place_in : List ℕ → ℕ → ℕ

@@ -1,4 +1,5 @@
--- Substitutions of terms for variables, and the most general of those that make two atoms equal, after Robinson 1965 and Martelli and Montanari 1982.
+-- Substitutions of terms for variables, and the most general of those that make two atoms equal,
+-- after Robinson 1965 and Martelli and Montanari 1982.
 use Rattle.std.specs.Prelude.{◌≡◌, ◌==◌, ℕ, if◌then◌else◌, List, [], ◌∷◌, map}
 use Rattle.dl_syntax.specs.declared.queries.Term.{Term}
 use Rattle.dl_syntax.specs.declared.queries.Term.TheVariants.{Var, Ind}
@@ -29,7 +30,8 @@ image_of (pair ∷ pairs) v = if pair.0 == v then pair.1 else image_of pairs v
 -- the substitution makes the atoms equal, and each other that does goes through it
 pub record IsMostGeneral (s : Substitution) (a b : Atom) : Type 0 where
   pub same : applied_atom s a ≡ applied_atom s b
-  pub general : (t : Substitution) → applied_atom t a ≡ applied_atom t b → (v : ℕ) → applied t (s v) ≡ t v
+  pub general : (t : Substitution) → applied_atom t a ≡ applied_atom t b → (v : ℕ)
+      → applied t (s v) ≡ t v
 
 -- no substitution makes the atoms equal
 pub record CannotUnify (a b : Atom) : Type 0 where

@@ -1,4 +1,5 @@
--- Unbound variables, and what an inclusion lets an atom become, after Calvanese, De Giacomo, Lembo, Lenzerini and Rosati 2007.
+-- Unbound variables, and what an inclusion lets an atom become, after Calvanese, De Giacomo, Lembo,
+-- Lenzerini and Rosati 2007.
 use Rattle.std.specs.Prelude.{◌≡◌, ◌==◌, ℕ, ◌+◌, if◌then◌else◌, List, [], ◌∷◌}
 use Rattle.dl_syntax.specs.declared.ontology.Role.{Role}
 use Rattle.dl_syntax.specs.declared.ontology.Basic.{Basic}
@@ -54,6 +55,8 @@ AsksFor (basic.Some r) x q a = (u : ℕ) × IsUnbound u q × (a ≡ role_atom r 
 
 -- by the inclusion the atom of the query becomes the second one
 abbrev pub Becomes : Inclusion → Cq → ℕ → Atom → Atom → Type 0
-Becomes (inclusion.Concepts b c) q new a a' = (x : Term) × AsksFor c x q a × (a' ≡ basic_atom b x new)
-Becomes (inclusion.Roles r s) q new a a' = (x y : Term) × (a ≡ role_atom s x y) × (a' ≡ role_atom r x y)
+Becomes (inclusion.Concepts b c) q new a a' =
+    (x : Term) × AsksFor c x q a × (a' ≡ basic_atom b x new)
+Becomes (inclusion.Roles r s) q new a a' = (x y : Term) × (a ≡ role_atom s x y)
+    × (a' ≡ role_atom r x y)
 Becomes (inclusion.Qualified b r c) q new a a' = ⊥

@@ -1,13 +1,17 @@
 //! Laws of the definitions, each the contract of a function with nothing to do.
 ghost use Rattle.query_unify.specs.Core.{CoreIsExact, ReplaceGoesBack, ReduceGoesBack};
-ghost use Rattle.query_unify.specs.Laws.{NormalGivesSame, StepIsSound, StepKeepsAnswers, ReachKeepsAnswers, ReachIsSound, ReachIsComplete, RewritingIsExact, ReduceHasOneResult, StepIsNoLonger, NormalIsQuery, StepKeepsQuery, ReplaceHasOneResult};
+ghost use Rattle.query_unify.specs.Laws.{NormalGivesSame, StepIsSound, StepKeepsAnswers};
+ghost use Rattle.query_unify.specs.Laws.{ReachKeepsAnswers, ReachIsSound, ReachIsComplete};
+ghost use Rattle.query_unify.specs.Laws.{RewritingIsExact, ReduceHasOneResult, StepIsNoLonger};
+ghost use Rattle.query_unify.specs.Laws.{NormalIsQuery, StepKeepsQuery, ReplaceHasOneResult};
 
 /// A query and its normal form give the same.
 pub fn normal_gives_same()
     ensures { NormalGivesSame }
 {}
 
-/// What a step's result gives in a run the query before gives in this run, or in this run continued once.
+/// What a step's result gives in a run the query before gives in this run, or in this run continued
+/// once.
 pub fn step_is_sound()
     ensures { StepIsSound }
 {}
@@ -48,8 +52,8 @@ pub fn core_is_exact()
     ensures { CoreIsExact }
 {}
 
-/// What the result of a step that makes no nulls gives in facts that are closed under the inclusions that make none,
-/// the query before gives there. Reductions need no closed facts.
+/// What the result of a step that makes no nulls gives in facts that are closed under the
+/// inclusions that make none, the query before gives there. Reductions need no closed facts.
 pub fn steps_go_back()
     ensures replace { ReplaceGoesBack }
     ensures reduce { ReduceGoesBack }

@@ -1,3 +1,5 @@
+//! Whether a query is within the limits.
+
 ghost use Rattle.std.specs.Prelude.{◌↔◌, ◌≤◌, length, IsTrue};
 ghost use Rattle.dl_syntax.specs.Queries.{IsBound, IsQuery};
 
@@ -15,7 +17,8 @@ fn is_bound(body: &[Atom], term: &Term) -> bool
     }
 }
 
-/// Whether the query is within the limits: its body has 1 to 8 atoms, and each variable of its head stands in the body.
+/// Whether the query is within the limits: its body has 1 to 8 atoms, and each variable of its head
+/// stands in the body.
 pub fn is_query(cq: &Cq) -> bool
     ensures { IsTrue result ↔ IsQuery cq.now }
 {

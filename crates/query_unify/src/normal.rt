@@ -1,9 +1,14 @@
-ghost use Rattle.std.specs.Prelude.{◌≡◌, ◌+◌, ◌*◌, ◌≤◌, ◌<◌, ◌^◌, ◌↔◌, ℕ, List, [], ◌∷◌, ◌++◌, length, map, IsTrue, IfSome, IfOk, OnOk};
+//! Queries in normal form.
+
+ghost use Rattle.std.specs.Prelude.{◌≡◌, ◌+◌, ◌*◌, ◌≤◌, ◌<◌, ◌^◌, ◌↔◌, ℕ, List, [], ◌∷◌, ◌++◌};
+ghost use Rattle.std.specs.Prelude.{length, map, IsTrue, IfSome, IfOk, OnOk};
 ghost use Rattle.std.specs.List.{Contains};
 ghost use Rattle.dl_syntax.specs.declared.queries.Atom.{Atom as AtomValue};
 ghost use Rattle.dl_syntax.specs.Queries.{IsQuery};
 ghost use Rattle.query_unify.specs.Substitution.{applied, applied_atom};
-ghost use Rattle.query_unify.specs.Normal.{distinct, first_places, same_atom, variables_of, terms_of, variables as variables_in, numbers, place_in, places, normalise as normal_form};
+ghost use Rattle.query_unify.specs.Normal.{distinct, first_places, same_atom, variables_of};
+ghost use Rattle.query_unify.specs.Normal.{terms_of, variables as variables_in, numbers, place_in};
+ghost use Rattle.query_unify.specs.Normal.{places, normalise as normal_form};
 
 use dl_syntax::{Atom, Cq, Items, Memory, Term};
 use std::alloc::Global;
@@ -28,7 +33,8 @@ fn has_atom(found: &[Atom], atom: &Atom) -> bool
 
 /// Puts the variable last, unless it is there.
 fn add_variable(found: &mut Vec<u16>, term: &Term) -> Result<(), Memory>
-    ensures { OnOk result ((before : List ℕ) → found.old.items ≡ distinct before → found.new.items ≡ distinct (before ++ variables_of (term.now ∷ []))) }
+    ensures { OnOk result ((before : List ℕ) → found.old.items ≡ distinct before
+        → found.new.items ≡ distinct (before ++ variables_of (term.now ∷ []))) }
 {
     if let Term::Var(variable) = *term {
         if !has_variable(found.as_slice(), variable) {
@@ -40,7 +46,8 @@ fn add_variable(found: &mut Vec<u16>, term: &Term) -> Result<(), Memory>
 
 /// Puts the variables last that are not there.
 fn add_variables(found: &mut Vec<u16>, atom: &Atom) -> Result<(), Memory>
-    ensures { OnOk result ((before : List ℕ) → found.old.items ≡ distinct before → found.new.items ≡ distinct (before ++ variables_of (terms_of (atom.now ∷ [])))) }
+    ensures { OnOk result ((before : List ℕ) → found.old.items ≡ distinct before
+        → found.new.items ≡ distinct (before ++ variables_of (terms_of (atom.now ∷ [])))) }
 {
     match atom {
         Atom::Concept(_, x) => add_variable(found, x),
@@ -112,7 +119,8 @@ fn numbered_head(alloc: Global, found: &[u16], head: &[Term]) -> Result<Vec<Term
 
 fn numbered_body(alloc: Global, found: &[u16], body: &[Atom]) -> Result<Vec<Atom>, Memory>
     requires { length found.now < 2 ^ 16 }
-    ensures { IfOk result (λ atoms. atoms.items ≡ first_places same_atom (map (applied_atom (places found.now)) body.now)) }
+    ensures { IfOk result (λ atoms. atoms.items
+        ≡ first_places same_atom (map (applied_atom (places found.now)) body.now)) }
 {
     let mut atoms = Vec::with_capacity(alloc, body.len())?;
     for atom in body {
@@ -138,7 +146,8 @@ fn numbered_query(alloc: Global, cq: &Cq) -> Result<Cq, Memory>
     })
 }
 
-/// The normal form of the query: its variables numbered from 0 by first occurrence in the head, then in the body, and each atom at its first place only.
+/// The normal form of the query: its variables numbered from 0 by first occurrence in the head,
+/// then in the body, and each atom at its first place only.
 pub fn normalise(alloc: Global, cq: &Cq) -> Result<Cq, Memory>
     requires { IsQuery cq.now }
     ensures { IfOk result (λ normal. normal ≡ normal_form cq.now) }
@@ -148,7 +157,8 @@ pub fn normalise(alloc: Global, cq: &Cq) -> Result<Cq, Memory>
 
 /// How many variables there are with the term, where they are numbered in order.
 fn count_with(count: usize, term: &Term) -> Option<usize>
-    ensures { IfSome result (λ more. (before : List ℕ) → distinct before ≡ numbers count → distinct (before ++ variables_of (term.now ∷ [])) ≡ numbers more) }
+    ensures { IfSome result (λ more. (before : List ℕ) → distinct before ≡ numbers count
+        → distinct (before ++ variables_of (term.now ∷ [])) ≡ numbers more) }
 {
     match *term {
         Term::Var(variable) => {
@@ -166,7 +176,8 @@ fn count_with(count: usize, term: &Term) -> Option<usize>
 }
 
 fn count_with_atom(count: usize, atom: &Atom) -> Option<usize>
-    ensures { IfSome result (λ more. (before : List ℕ) → distinct before ≡ numbers count → distinct (before ++ variables_of (terms_of (atom.now ∷ []))) ≡ numbers more) }
+    ensures { IfSome result (λ more. (before : List ℕ) → distinct before ≡ numbers count
+        → distinct (before ++ variables_of (terms_of (atom.now ∷ []))) ≡ numbers more) }
 {
     match atom {
         Atom::Concept(_, x) => count_with(count, x),

@@ -1,11 +1,19 @@
-ghost use Rattle.std.specs.Prelude.{◌≡◌, ◌<◌, ◌≤◌, ◌*◌, ◌↔◌, ◌^◌, ℕ, [], ◌∷◌, length, IsTrue, MatchOption, IfOk, set};
+//! One replacement of an atom by an inclusion.
+
+ghost use Rattle.std.specs.Prelude.{◌≡◌, ◌<◌, ◌≤◌, ◌*◌, ◌↔◌, ◌^◌, ℕ, [], ◌∷◌, length, IsTrue};
+ghost use Rattle.std.specs.Prelude.{MatchOption, IfOk, set};
 ghost use Rattle.std.specs.List.{Contains};
 ghost use Rattle.dl_syntax.specs.declared.queries.Term.{Term as TermValue};
 ghost use Rattle.dl_syntax.specs.declared.queries.Atom.{Atom as AtomValue};
 ghost use Rattle.dl_syntax.specs.declared.queries.Cq.{Cq as CqValue};
 ghost use Rattle.dl_syntax.specs.Queries.{IsQuery};
 ghost use Rattle.dl_syntax.specs.Encode.{IsUnqualified};
-ghost use Rattle.query_unify.specs.Table.{count_in_term as times_in_term, count_in_terms as times_in_terms, count_in_atom as times_in_atom, count_in_atoms as times_in_atoms, IsUnbound, IsNew, role_atom as atom_of_role, basic_atom as atom_of_basic, AsksFor, Becomes};
+ghost use Rattle.query_unify.specs.Table.{count_in_term as times_in_term};
+ghost use Rattle.query_unify.specs.Table.{count_in_terms as times_in_terms};
+ghost use Rattle.query_unify.specs.Table.{count_in_atom as times_in_atom};
+ghost use Rattle.query_unify.specs.Table.{count_in_atoms as times_in_atoms, IsUnbound, IsNew};
+ghost use Rattle.query_unify.specs.Table.{role_atom as atom_of_role, basic_atom as atom_of_basic};
+ghost use Rattle.query_unify.specs.Table.{AsksFor, Becomes};
 ghost use Rattle.query_unify.specs.Reach.{Replaces};
 
 use crate::normal::into_normal;
@@ -80,7 +88,8 @@ fn unused(cq: &Cq) -> u16
 
 /// The terms that the atom makes a pair of the role.
 fn pair_in(role: &Role, atom: &Atom) -> Option<(Term, Term)>
-    ensures { MatchOption result ((x y : TermValue) → atom.now ≡ atom_of_role role.now x y → ⊥) (λ pair. atom.now ≡ atom_of_role role.now pair.0 pair.1) }
+    ensures { MatchOption result ((x y : TermValue) → atom.now ≡ atom_of_role role.now x y
+        → ⊥) (λ pair. atom.now ≡ atom_of_role role.now pair.0 pair.1) }
 {
     match *atom {
         Atom::Concept(_, _) => None,
@@ -97,7 +106,8 @@ fn pair_in(role: &Role, atom: &Atom) -> Option<(Term, Term)>
 /// The term of which the atom asks no more than that it is in the basic concept.
 fn asked_term(basic: &Basic, cq: &Cq, atom: &Atom) -> Option<Term>
     requires { IsQuery cq.now }
-    ensures { MatchOption result ((x : TermValue) → AsksFor basic.now x cq.now atom.now → ⊥) (λ x. AsksFor basic.now x cq.now atom.now) }
+    ensures { MatchOption result ((x : TermValue) → AsksFor basic.now x cq.now atom.now
+        → ⊥) (λ x. AsksFor basic.now x cq.now atom.now) }
 {
     match basic {
         Basic::Concept(wanted) => match *atom {
@@ -136,7 +146,9 @@ fn basic_atom(basic: &Basic, x: Term, cq: &Cq) -> Atom
 /// What the inclusion lets the atom become.
 fn replacement(inclusion: &Inclusion, cq: &Cq, atom: &Atom) -> Option<Atom>
     requires { IsQuery cq.now }
-    ensures { MatchOption result ((new : ℕ) (a : AtomValue) → Becomes inclusion.now cq.now new atom.now a → ⊥) (λ a. (new : ℕ) × IsNew new cq.now × Becomes inclusion.now cq.now new atom.now a) }
+    ensures { MatchOption result ((new : ℕ) (a : AtomValue)
+        → Becomes inclusion.now cq.now new atom.now a
+        → ⊥) (λ a. (new : ℕ) × IsNew new cq.now × Becomes inclusion.now cq.now new atom.now a) }
 {
     match inclusion {
         Inclusion::Concepts(below, above) => match asked_term(above, cq, atom) {
@@ -151,7 +163,8 @@ fn replacement(inclusion: &Inclusion, cq: &Cq, atom: &Atom) -> Option<Atom>
     }
 }
 
-/// Whether the inclusion lets the atom at the place become another. A qualified inclusion is told by its encoding, and never applies itself.
+/// Whether the inclusion lets the atom at the place become another. A qualified inclusion is told
+/// by its encoding, and never applies itself.
 pub fn step_applies(cq: &Cq, inclusion: &Inclusion, place: u16) -> bool
     requires query { IsQuery cq.now }
     requires within { place < length cq.now.body }
@@ -164,7 +177,8 @@ pub fn step_applies(cq: &Cq, inclusion: &Inclusion, place: u16) -> bool
 /// The query with another atom at the place.
 fn with_atom(alloc: Global, cq: &Cq, place: usize, atom: Atom) -> Result<Cq, Memory>
     requires { place < length cq.now.body }
-    ensures { IfOk result (λ changed. changed ≡ record cq.now { body = set cq.now.body place atom }) }
+    ensures { IfOk result (λ changed. changed
+        ≡ record cq.now { body = set cq.now.body place atom }) }
 {
     let mut body = Vec::from_slice(alloc, cq.body.as_slice())?;
     body[place] = atom;
@@ -175,12 +189,14 @@ fn with_atom(alloc: Global, cq: &Cq, place: usize, atom: Atom) -> Result<Cq, Mem
     })
 }
 
-/// The normal form of the query after the atom at the place becomes what the inclusion lets it become; none where the inclusion does not apply there.
+/// The normal form of the query after the atom at the place becomes what the inclusion lets it
+/// become; none where the inclusion does not apply there.
 pub fn step(alloc: Global, cq: &Cq, inclusion: &Inclusion, place: u16) -> Result<Option<Cq>, Memory>
     requires query { IsQuery cq.now }
     requires within { place < length cq.now.body }
     requires unqualified { IsUnqualified inclusion.now }
-    ensures { IfOk result (λ stepped. MatchOption stepped ((q : CqValue) → Replaces inclusion.now place cq.now q → ⊥) (λ q. Replaces inclusion.now place cq.now q)) }
+    ensures { IfOk result (λ stepped. MatchOption stepped ((q : CqValue)
+        → Replaces inclusion.now place cq.now q → ⊥) (λ q. Replaces inclusion.now place cq.now q)) }
 {
     match replacement(inclusion, cq, &cq.body.as_slice()[place as usize]) {
         Some(atom) => {

@@ -1,17 +1,24 @@
-ghost use Rattle.std.specs.Prelude.{◌≡◌, ◌≢◌, ◌<◌, ◌++◌, ◌⊎◌, ℕ, length, map, IsTrue, ◌↔◌, MatchOption, IfSome, IfOk, OnOk};
+//! Most general unifiers.
+
+ghost use Rattle.std.specs.Prelude.{◌≡◌, ◌≢◌, ◌<◌, ◌++◌, ◌⊎◌, ℕ, length, map, IsTrue, ◌↔◌};
+ghost use Rattle.std.specs.Prelude.{MatchOption, IfSome, IfOk, OnOk};
 ghost use Rattle.std.specs.List.{AllPairs};
 ghost use Rattle.dl_syntax.specs.declared.queries.Term.{Term as TermValue};
 ghost use Rattle.dl_syntax.specs.declared.queries.Cq.{Cq as CqValue};
 ghost use Rattle.dl_syntax.specs.Queries.{IsQuery};
-ghost use Rattle.query_unify.specs.Substitution.{applied, applied_atom, applied_query, image_of, IsMostGeneral, CannotUnify};
+ghost use Rattle.query_unify.specs.Substitution.{applied, applied_atom, applied_query, image_of};
+ghost use Rattle.query_unify.specs.Substitution.{IsMostGeneral, CannotUnify};
 ghost use Rattle.query_unify.specs.Reach.{Reduces};
-ghost use Rattle.query_unify.specs.Bindings.{image, both_images, applied_binding, pairs_in, Binds, UnifiesTerms, CannotUnifyTerms, UnifiesPairs, CannotUnifyPairs};
+ghost use Rattle.query_unify.specs.Bindings.{image, both_images, applied_binding, pairs_in, Binds};
+ghost use Rattle.query_unify.specs.Bindings.{UnifiesTerms, CannotUnifyTerms, UnifiesPairs};
+ghost use Rattle.query_unify.specs.Bindings.{CannotUnifyPairs};
 
 use crate::normal::into_normal;
 use dl_syntax::{Atom, Cq, Items, Memory, Term};
 use std::alloc::Global;
 
-/// Terms for variables, each variable listed at most once. They are put in all at once, and every other variable stays.
+/// Terms for variables, each variable listed at most once. They are put in all at once, and every
+/// other variable stays.
 #[derive(Debug, Drop)]
 pub struct Subst {
     pub pairs: Items<(u16, Term)>,
@@ -43,11 +50,13 @@ fn apply(binding: Binding, term: Term) -> Term
     }
 }
 
-/// The most general binding that makes two terms equal. The variable that it has a term for is one of the two, and its term is another.
+/// The most general binding that makes two terms equal. The variable that it has a term for is one
+/// of the two, and its term is another.
 fn unify_terms(a: Term, b: Term) -> Option<Binding>
     ensures unifies { MatchOption result (CannotUnifyTerms a b) (λ s. UnifiesTerms (image s) a b) }
     ensures known { IfSome result (λ s. (v : ℕ) → Binds s v → (a ≡ Term.Var v) ⊎ (b ≡ Term.Var v)) }
-    ensures gone { IfSome result (λ s. (v : ℕ) (x : TermValue) → Binds s v → applied (image s) x ≡ Term.Var v → ⊥) }
+    ensures gone { IfSome result (λ s. (v : ℕ) (x : TermValue) → Binds s v
+        → applied (image s) x ≡ Term.Var v → ⊥) }
 {
     match (a, b) {
         (Term::Var(variable), Term::Var(other)) => {
@@ -71,7 +80,8 @@ fn unify_terms(a: Term, b: Term) -> Option<Binding>
 
 /// The most general bindings that make two pairs of terms equal.
 fn unify_pairs(a: Term, b: Term, c: Term, d: Term) -> Option<Bindings>
-    ensures unifies { MatchOption result (CannotUnifyPairs a b c d) (λ s. UnifiesPairs (both_images s) a b c d) }
+    ensures unifies { MatchOption result (CannotUnifyPairs a b c d) (λ s.
+        UnifiesPairs (both_images s) a b c d) }
     ensures apart { IfSome result (λ s. (v : ℕ) → Binds s.first v → Binds s.second v → ⊥) }
 {
     let first = unify_terms(a, b)?;
@@ -81,7 +91,8 @@ fn unify_pairs(a: Term, b: Term, c: Term, d: Term) -> Option<Bindings>
 
 /// The most general bindings that make two atoms equal, if there are any.
 fn unify_atoms(a: &Atom, b: &Atom) -> Option<Bindings>
-    ensures unifies { MatchOption result (CannotUnify a.now b.now) (λ s. IsMostGeneral (both_images s) a.now b.now) }
+    ensures unifies { MatchOption result (CannotUnify a.now b.now) (λ s.
+        IsMostGeneral (both_images s) a.now b.now) }
     ensures apart { IfSome result (λ s. (v : ℕ) → Binds s.first v → Binds s.second v → ⊥) }
 {
     match (*a, *b) {
@@ -128,7 +139,9 @@ fn push_binding(pairs: &mut Vec<(u16, Term)>, binding: Binding) -> Result<(), Me
 
 /// The bindings put in all at once.
 fn pairs_of(alloc: Global, bindings: &Bindings) -> Result<Vec<(u16, Term)>, Memory>
-    ensures { IfOk result (λ pairs. pairs.items ≡ pairs_in (applied_binding (image bindings.now.second) bindings.now.first) ++ pairs_in bindings.now.second) }
+    ensures { IfOk result (λ pairs. pairs.items
+        ≡ pairs_in (applied_binding (image bindings.now.second) bindings.now.first)
+        ++ pairs_in bindings.now.second) }
 {
     let mut pairs = Vec::with_capacity(alloc, 2)?;
     push_binding(&mut pairs, bound_again(bindings.first, bindings.second))?;
@@ -136,10 +149,14 @@ fn pairs_of(alloc: Global, bindings: &Bindings) -> Result<Vec<(u16, Term)>, Memo
     Ok(pairs)
 }
 
-/// A most general substitution that makes two atoms equal, if any substitution does. Two different individuals are never equal.
+/// A most general substitution that makes two atoms equal, if any substitution does. Two different
+/// individuals are never equal.
 pub fn unify(alloc: Global, a: &Atom, b: &Atom) -> Result<Option<Subst>, Memory>
-    ensures unifies { IfOk result (λ unified. MatchOption unified (CannotUnify a.now b.now) (λ s. IsMostGeneral (image_of s.pairs) a.now b.now)) }
-    ensures once { IfOk result (λ unified. IfSome unified (λ s. AllPairs (λ p r. p.0 ≢ r.0) s.pairs)) }
+    ensures unifies { IfOk result (λ unified.
+        MatchOption unified (CannotUnify a.now b.now) (λ s.
+        IsMostGeneral (image_of s.pairs) a.now b.now)) }
+    ensures once { IfOk result (λ unified.
+        IfSome unified (λ s. AllPairs (λ p r. p.0 ≢ r.0) s.pairs)) }
 {
     match unify_atoms(a, b) {
         Some(bindings) => {
@@ -153,7 +170,8 @@ pub fn unify(alloc: Global, a: &Atom, b: &Atom) -> Result<Option<Subst>, Memory>
 
 /// Whether some substitution makes the atoms equal.
 pub fn atoms_unify(a: &Atom, b: &Atom) -> bool
-    ensures { IsTrue result ↔ ((s : ℕ → TermValue) × (applied_atom s a.now ≡ applied_atom s b.now)) }
+    ensures { IsTrue result ↔ ((s : ℕ → TermValue)
+        × (applied_atom s a.now ≡ applied_atom s b.now)) }
 {
     unify_atoms(a, b).is_some()
 }
@@ -175,7 +193,8 @@ fn substituted_atom(bindings: &Bindings, atom: &Atom) -> Atom
 }
 
 fn substituted_head(alloc: Global, bindings: &Bindings, head: &[Term]) -> Result<Vec<Term>, Memory>
-    ensures { IfOk result (λ terms. terms.items ≡ map (applied (both_images bindings.now)) head.now) }
+    ensures { IfOk result (λ terms. terms.items
+        ≡ map (applied (both_images bindings.now)) head.now) }
 {
     let mut terms = Vec::with_capacity(alloc, head.len())?;
     for term in head {
@@ -185,7 +204,8 @@ fn substituted_head(alloc: Global, bindings: &Bindings, head: &[Term]) -> Result
 }
 
 fn substituted_body(alloc: Global, bindings: &Bindings, body: &[Atom]) -> Result<Vec<Atom>, Memory>
-    ensures { IfOk result (λ atoms. atoms.items ≡ map (applied_atom (both_images bindings.now)) body.now) }
+    ensures { IfOk result (λ atoms. atoms.items
+        ≡ map (applied_atom (both_images bindings.now)) body.now) }
 {
     let mut atoms = Vec::with_capacity(alloc, body.len())?;
     for atom in body {
@@ -206,12 +226,14 @@ fn substituted_query(alloc: Global, bindings: &Bindings, cq: &Cq) -> Result<Cq, 
     })
 }
 
-/// The normal form of the query after a most general unifier of the atoms at two places is applied to head and body; none where no substitution makes them equal.
+/// The normal form of the query after a most general unifier of the atoms at two places is applied
+/// to head and body; none where no substitution makes them equal.
 pub fn reduce(alloc: Global, cq: &Cq, first: u16, second: u16) -> Result<Option<Cq>, Memory>
     requires query { IsQuery cq.now }
     requires order { first < second }
     requires within { second < length cq.now.body }
-    ensures { IfOk result (λ reduced. MatchOption reduced ((q : CqValue) → Reduces first second cq.now q → ⊥) (λ q. Reduces first second cq.now q)) }
+    ensures { IfOk result (λ reduced. MatchOption reduced ((q : CqValue)
+        → Reduces first second cq.now q → ⊥) (λ q. Reduces first second cq.now q)) }
 {
     let atoms = cq.body.as_slice();
     match unify_atoms(&atoms[first as usize], &atoms[second as usize]) {

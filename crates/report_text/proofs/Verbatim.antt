@@ -8,7 +8,9 @@ use Rattle.json.specs.Print.{escape, escape_byte}
 use Rattle.serde_json.specs.Data.{string}
 use Rattle.dl_syntax.specs.Names.{IsName, is_letter, is_name_byte}
 use Rattle.report_text.specs.declared.item.Cause.{Cause}
-use Rattle.report_text.specs.declared.item.Cause.TheVariants.{TooLong, Malformed, Unknown, WrongKind, Undeclared, TooManyFacts, Contradiction}
+use Rattle.report_text.specs.declared.item.Cause.TheVariants.{TooLong, Malformed, Unknown}
+use Rattle.report_text.specs.declared.item.Cause.TheVariants.{WrongKind, Undeclared, TooManyFacts}
+use Rattle.report_text.specs.declared.item.Cause.TheVariants.{Contradiction}
 use Rattle.report_text.specs.Names.{Text}
 use Rattle.report_text.specs.Rows.{cause_word}
 use Rattle.report_text.specs.Objects.{IsVerbatim, value_text}
@@ -25,11 +27,14 @@ rest_escapes : (rest : Text) → All (λ b. IsTrue (is_name_byte b)) rest → es
 rest_escapes [] all = refl
 rest_escapes (b ∷ rest) all =
     let one = name_byte_escapes b (All-head (λ b. IsTrue (is_name_byte b)) b rest all) in
-    ap (λ t. t ++ escape rest) one ∙ ap (λ t. b ∷ t) (rest_escapes rest (All-tail (λ b. IsTrue (is_name_byte b)) b rest all))
+    ap (λ t. t ++ escape rest) one ∙ ap (λ t.
+    b ∷ t) (rest_escapes rest (All-tail (λ b. IsTrue (is_name_byte b)) b rest all))
 
 name_escapes : (name : Text) → IsName name → escape name ≡ name
 name_escapes [] none = absurd none
-name_escapes (first ∷ rest) is = ap (λ t. t ++ escape rest) (letter_escapes first is.0) ∙ ap (λ t. first ∷ t) (rest_escapes rest is.1)
+name_escapes (first ∷ rest) is =
+    ap (λ t. t ++ escape rest) (letter_escapes first is.0) ∙ ap (λ t.
+    first ∷ t) (rest_escapes rest is.1)
 
 pub name_is_verbatim : (name : Text) → IsName name → IsVerbatim name
 name_is_verbatim name is = ap (λ t. 34 ∷ (t ++ 34 ∷ [])) (name_escapes name is)
@@ -44,6 +49,7 @@ word_is_verbatim (Undeclared name) = refl
 word_is_verbatim TooManyFacts = refl
 word_is_verbatim (Contradiction clash) = refl
 
-pub verbatim_text : (text : Text) → IsVerbatim text → codes "\"" ++ text ++ codes "\"" ≡ value_text (string text)
+pub verbatim_text : (text : Text) → IsVerbatim text
+    → codes "\"" ++ text ++ codes "\"" ≡ value_text (string text)
 unfolding value_text
 verbatim_text text verbatim = sym verbatim

@@ -25,21 +25,26 @@ abbrev pub kept_items : ℕ → ℕ → Option ℕ → List Item
 kept_items line place None = []
 kept_items line place (Some size) = item.Kept line place size ∷ []
 
--- for each of these queries in their order, of which the first has this place: its answers, and then how much it keeps
+-- for each of these queries in their order, of which the first has this place: its answers, and
+-- then how much it keeps
 abbrev pub query_items : ℕ → ℕ → Option (List ℕ) → ℕ → List Relation → List Item
 query_items line number kept place [] = []
 query_items line number kept place (relation ∷ later) =
-    answer_items line number place relation.rows ++ (kept_items line place (size_at kept place) ++ query_items line number kept (place + 1) later)
+    answer_items line number place relation.rows
+    ++ (kept_items line place (size_at kept place)
+    ++ query_items line number kept (place + 1) later)
 
 -- the items of an event in their order
 abbrev pub items_of : Event → List Item
-items_of (Accepted line number answers kept) = item.Accepted line number ∷ query_items line number kept 0 answers
+items_of (Accepted line number answers kept) =
+    item.Accepted line number ∷ query_items line number kept 0 answers
 items_of (Refused line cause) = item.Refused line cause ∷ []
 items_of (End accepted refused) = item.End accepted refused ∷ []
 
 -- the bytes of an event: a line for each item, or one object
 abbrev pub event_text : ReportForm → Declared → List Tcq → Event → Text
-event_text (form.Lines lines) ontology queries event = flat_map (line_in lines ontology queries) (items_of event)
+event_text (form.Lines lines) ontology queries event =
+    flat_map (line_in lines ontology queries) (items_of event)
 event_text form.Objects ontology queries event = object_text ontology queries event
 
 -- what stands before the first event
@@ -52,14 +57,17 @@ abbrev pub HasSizes : List Tcq → Option (List ℕ) → Type 0
 HasSizes queries None = Unit {0}
 HasSizes queries (Some sizes) = length sizes ≡ length queries
 
--- there are answers for each query, over individuals that have names, and sizes for each where they are told
-pub record AreAnswered (ontology : Declared) (queries : List Tcq) (kept : Option (List ℕ)) (answers : List Relation) : Type 0 where
+-- there are answers for each query, over individuals that have names, and sizes for each where they
+-- are told
+pub record AreAnswered (ontology : Declared) (queries : List Tcq) (kept : Option (List ℕ))
+    (answers : List Relation) : Type 0 where
   pub one_each : length answers ≡ length queries
   pub sizes : HasSizes queries kept
   pub named : All (λ relation. AreNamed ontology relation.rows) answers
 
 abbrev pub HasAnswers : Declared → List Tcq → Event → Type 0
-HasAnswers ontology queries (Accepted line number answers kept) = AreAnswered ontology queries kept answers
+HasAnswers ontology queries (Accepted line number answers kept) =
+    AreAnswered ontology queries kept answers
 HasAnswers ontology queries (Refused line cause) = Unit {0}
 HasAnswers ontology queries (End accepted refused) = Unit {0}
 
@@ -68,7 +76,8 @@ IsSpelledEvent (Accepted line number answers kept) = Unit {0}
 IsSpelledEvent (Refused line cause) = IsSpelledCause cause
 IsSpelledEvent (End accepted refused) = Unit {0}
 
--- each query has its answers, what they name exists, and the names of the queries and of a cause are spelled as names
+-- each query has its answers, what they name exists, and the names of the queries and of a cause
+-- are spelled as names
 pub record EventHasNames (ontology : Declared) (queries : List Tcq) (event : Event) : Type 0 where
   pub answers : HasAnswers ontology queries event
   pub queries_spelled : AreSpelled queries

@@ -1,17 +1,22 @@
 -- The lines of a report in text form, and in each form of lines.
-use Rattle.std.specs.Prelude.{ℕ, List, [], ◌∷◌, ◌++◌, codes, decimal, flat_map, slice_index_or, Some, None}
+use Rattle.std.specs.Prelude.{ℕ, List, [], ◌∷◌, ◌++◌, codes, decimal, flat_map, slice_index_or}
+use Rattle.std.specs.Prelude.{Some, None}
 use Rattle.std.specs.declared.option.Option.{Option}
 use Rattle.dl_syntax.specs.declared.names.IndId.{IndId}
 use Rattle.dl_syntax.specs.Ontology.{Declared}
 use Rattle.tcq_syntax.specs.Tcq.{Tcq}
 use Rattle.report_text.specs.declared.item.Cause.{Cause}
-use Rattle.report_text.specs.declared.item.Cause.TheVariants.{TooLong, Malformed, Unknown, WrongKind, Undeclared, TooManyFacts, Contradiction}
+use Rattle.report_text.specs.declared.item.Cause.TheVariants.{TooLong, Malformed, Unknown}
+use Rattle.report_text.specs.declared.item.Cause.TheVariants.{WrongKind, Undeclared, TooManyFacts}
+use Rattle.report_text.specs.declared.item.Cause.TheVariants.{Contradiction}
 use Rattle.report_text.specs.declared.item.Item.{Item}
 use Rattle.report_text.specs.declared.item.Item.TheVariants.{Accepted, Answer, Kept, Refused, End}
 use Rattle.forms.specs.declared.LineForm.{LineForm}
 use Rattle.forms.specs.declared.LineForm.TheVariants as form
-pub use Rattle.report_text.specs.Names.{Text, name_of_query, query_name, IsNamed, AreNamed, HasNames, AreSpelled, IsSpelledItem}
-use Rattle.report_text.specs.Rows.{heading_row, item_row, accepted_row, answer_rows, kept_row, refused_row, end_row}
+pub use Rattle.report_text.specs.Names.{Text, name_of_query, query_name, IsNamed, AreNamed}
+pub use Rattle.report_text.specs.Names.{HasNames, AreSpelled, IsSpelledItem}
+use Rattle.report_text.specs.Rows.{heading_row, item_row, accepted_row, answer_rows, kept_row}
+use Rattle.report_text.specs.Rows.{refused_row, end_row}
 
 -- what stands before the first line
 abbrev pub heading_text : LineForm → Text
@@ -40,10 +45,12 @@ answers_text names query rows = flat_map (answer_text names query) rows
 
 -- words, a number, words and a number
 abbrev pub two_text : Text → ℕ → Text → ℕ → Text
-two_text before first between second = before ++ decimal first ++ between ++ decimal second ++ codes "\n"
+two_text before first between second =
+    before ++ decimal first ++ between ++ decimal second ++ codes "\n"
 
 abbrev pub refused_text : ℕ → Cause → Text
-refused_text line cause = codes "line " ++ decimal line ++ codes " refused " ++ cause_text cause ++ codes "\n"
+refused_text line cause = codes "line " ++ decimal line ++ codes " refused " ++ cause_text cause
+    ++ codes "\n"
 
 -- how much a query keeps
 abbrev pub kept_text : Text → ℕ → Text
@@ -51,11 +58,14 @@ kept_text query size = codes "kept " ++ query ++ codes " " ++ decimal size ++ co
 
 -- the line of an item
 abbrev pub line_text : Declared → List Tcq → Item → Text
-line_text ontology queries (Accepted line number) = two_text (codes "line ") line (codes " accepted ") number
-line_text ontology queries (Answer line number query row) = answer_text ontology.individuals (query_name queries query) row
+line_text ontology queries (Accepted line number) =
+    two_text (codes "line ") line (codes " accepted ") number
+line_text ontology queries (Answer line number query row) =
+    answer_text ontology.individuals (query_name queries query) row
 line_text ontology queries (Kept line query size) = kept_text (query_name queries query) size
 line_text ontology queries (Refused line cause) = refused_text line cause
-line_text ontology queries (End accepted refused) = two_text (codes "end accepted ") accepted (codes " refused ") refused
+line_text ontology queries (End accepted refused) =
+    two_text (codes "end accepted ") accepted (codes " refused ") refused
 
 -- the line of an item in this form
 abbrev pub line_in : LineForm → Declared → List Tcq → Item → Text
@@ -89,5 +99,6 @@ refused_in form.Text line cause = refused_text line cause
 refused_in form.Csv line cause = refused_row line cause
 
 abbrev pub end_in : LineForm → ℕ → ℕ → Text
-end_in form.Text accepted refused = two_text (codes "end accepted ") accepted (codes " refused ") refused
+end_in form.Text accepted refused =
+    two_text (codes "end accepted ") accepted (codes " refused ") refused
 end_in form.Csv accepted refused = end_row accepted refused

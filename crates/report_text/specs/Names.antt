@@ -1,5 +1,6 @@
 -- The names that a report tells, and the numbers that stand for them.
-use Rattle.std.specs.Prelude.{ℕ, ◌<◌, List, [], ◌∷◌, ◌++◌, flat_map, length, slice_index_or, slice_get, Some, None}
+use Rattle.std.specs.Prelude.{ℕ, ◌<◌, List, [], ◌∷◌, ◌++◌, flat_map, length, slice_index_or}
+use Rattle.std.specs.Prelude.{slice_get, Some, None}
 use Rattle.std.specs.List.{All}
 use Rattle.std.specs.declared.option.Option.{Option}
 use Rattle.dl_syntax.specs.declared.names.IndId.{IndId}
@@ -7,7 +8,9 @@ use Rattle.dl_syntax.specs.Names.{IsName}
 use Rattle.dl_syntax.specs.Ontology.{Declared}
 use Rattle.tcq_syntax.specs.Tcq.{Tcq}
 use Rattle.report_text.specs.declared.item.Cause.{Cause}
-use Rattle.report_text.specs.declared.item.Cause.TheVariants.{TooLong, Malformed, Unknown, WrongKind, Undeclared, TooManyFacts, Contradiction}
+use Rattle.report_text.specs.declared.item.Cause.TheVariants.{TooLong, Malformed, Unknown}
+use Rattle.report_text.specs.declared.item.Cause.TheVariants.{WrongKind, Undeclared, TooManyFacts}
+use Rattle.report_text.specs.declared.item.Cause.TheVariants.{Contradiction}
 use Rattle.report_text.specs.declared.item.Item.{Item}
 use Rattle.report_text.specs.declared.item.Item.TheVariants.{Accepted, Answer, Kept, Refused, End}
 
@@ -21,7 +24,8 @@ name_text names number = slice_index_or names number []
 -- the texts of the elements, with the separator before each but the first
 abbrev pub separated : {X : Type 0} → Text → (X → Text) → List X → Text
 separated separator text_of [] = []
-separated separator text_of (first ∷ rest) = text_of first ++ flat_map (λ x. separator ++ text_of x) rest
+separated separator text_of (first ∷ rest) =
+    text_of first ++ flat_map (λ x. separator ++ text_of x) rest
 
 abbrev pub name_of_query : Option Tcq → Text
 name_of_query None = []
@@ -41,7 +45,8 @@ AreNamed ontology rows = All (IsNamed ontology) rows
 -- the numbers of names and queries that the item has exist
 abbrev pub HasNames : Declared → List Tcq → Item → Type 0
 HasNames ontology queries (Accepted line number) = Unit {0}
-HasNames ontology queries (Answer line number query row) = (query < length queries) × IsNamed ontology row
+HasNames ontology queries (Answer line number query row) =
+    (query < length queries) × IsNamed ontology row
 HasNames ontology queries (Kept line query size) = query < length queries
 HasNames ontology queries (Refused line cause) = Unit {0}
 HasNames ontology queries (End accepted refused) = Unit {0}

@@ -1,8 +1,10 @@
--- The lines of a report in JSON form: one object a line, with no space, its keys in the order of their bytes.
--- The text of a value is what the serde_json library writes for it.
-use Rattle.std.specs.Prelude.{◌≡◌, ℕ, ◌+◌, List, [], ◌∷◌, ◌++◌, codes, decimal, map, slice_get, true, Some, None}
+-- The lines of a report in JSON form: one object a line, with no space, its keys in the order of
+-- their bytes. The text of a value is what the serde_json library writes for it.
+use Rattle.std.specs.Prelude.{◌≡◌, ℕ, ◌+◌, List, [], ◌∷◌, ◌++◌, codes, decimal, map, slice_get}
+use Rattle.std.specs.Prelude.{true, Some, None}
 use Rattle.std.specs.declared.option.Option.{Option}
-use Rattle.serde_json.specs.Data.{Data, array, boolean, member, no_members, number, object, string, unsigned}
+use Rattle.serde_json.specs.Data.{Data, array, boolean, member, no_members, number, object, string}
+use Rattle.serde_json.specs.Data.{unsigned}
 use Rattle.serde_json.specs.View.{items_of}
 use Rattle.serde_json.specs.Written.{compact_text}
 use Rattle.dl_syntax.specs.declared.names.IndId.{IndId}
@@ -10,7 +12,9 @@ use Rattle.dl_syntax.specs.Ontology.{Declared}
 use Rattle.dl_syntax.specs.Rows.{Relation}
 use Rattle.tcq_syntax.specs.Tcq.{Tcq}
 use Rattle.report_text.specs.declared.item.Cause.{Cause}
-use Rattle.report_text.specs.declared.item.Cause.TheVariants.{TooLong, Malformed, Unknown, WrongKind, Undeclared, TooManyFacts, Contradiction}
+use Rattle.report_text.specs.declared.item.Cause.TheVariants.{TooLong, Malformed, Unknown}
+use Rattle.report_text.specs.declared.item.Cause.TheVariants.{WrongKind, Undeclared, TooManyFacts}
+use Rattle.report_text.specs.declared.item.Cause.TheVariants.{Contradiction}
 use Rattle.report_text.specs.declared.event.Event.{Event}
 use Rattle.report_text.specs.declared.event.Event.TheVariants.{Accepted, Refused, End}
 use Rattle.report_text.specs.Names.{Text, name_text, query_name}
@@ -33,8 +37,11 @@ tuples_data names rows = array (items_of (map (tuple_data names) rows))
 
 -- a query's name and its tuples, and before them how much it keeps, where that is told
 abbrev pub query_with : Text → Option ℕ → Data → Data
-query_with query None tuples = object (member (codes "query") (string query) (member (codes "tuples") tuples no_members))
-query_with query (Some size) tuples = object (member (codes "kept") (count_data size) (member (codes "query") (string query) (member (codes "tuples") tuples no_members)))
+query_with query None tuples =
+    object (member (codes "query") (string query) (member (codes "tuples") tuples no_members))
+query_with query (Some size) tuples =
+    object (member (codes "kept") (count_data size)
+    (member (codes "query") (string query) (member (codes "tuples") tuples no_members)))
 
 -- the answers of one query
 unfoldable pub query_data : List Text → Text → Option ℕ → List (List IndId) → Data
@@ -49,25 +56,35 @@ size_at (Some sizes) place = slice_get sizes place
 abbrev pub queries_data : List Text → List Tcq → Option (List ℕ) → ℕ → List Relation → List Data
 queries_data names queries kept place [] = []
 queries_data names queries kept place (relation ∷ later) =
-    query_data names (query_name queries place) (size_at kept place) relation.rows ∷ queries_data names queries kept (place + 1) later
+    query_data names (query_name queries place) (size_at kept place) relation.rows
+    ∷ queries_data names queries kept (place + 1) later
 
 unfoldable pub answers_data : List Text → List Tcq → Option (List ℕ) → List Relation → Data
-answers_data names queries kept answers = array (items_of (queries_data names queries kept 0 answers))
+answers_data names queries kept answers =
+    array (items_of (queries_data names queries kept 0 answers))
 
 unfoldable pub accepted_data : ℕ → ℕ → Data → Data
-accepted_data line accepted answers = object (member (codes "accepted") (count_data accepted) (member (codes "answers") answers (member (codes "line") (count_data line) no_members)))
+accepted_data line accepted answers =
+    object (member (codes "accepted") (count_data accepted)
+    (member (codes "answers") answers (member (codes "line") (count_data line) no_members)))
 
 -- a refusal for a cause that is its word alone
 abbrev pub plain_data : ℕ → Text → Data
-plain_data line word = object (member (codes "line") (count_data line) (member (codes "refused") (string word) no_members))
+plain_data line word =
+    object (member (codes "line") (count_data line)
+    (member (codes "refused") (string word) no_members))
 
 -- a refusal for a cause with a name
 abbrev pub named_data : ℕ → Text → Text → Data
-named_data line name word = object (member (codes "line") (count_data line) (member (codes "name") (string name) (member (codes "refused") (string word) no_members)))
+named_data line name word =
+    object (member (codes "line") (count_data line)
+    (member (codes "name") (string name) (member (codes "refused") (string word) no_members)))
 
 -- a refusal for a clash
 abbrev pub clash_data : ℕ → ℕ → Text → Data
-clash_data line clash word = object (member (codes "clash") (count_data clash) (member (codes "line") (count_data line) (member (codes "refused") (string word) no_members)))
+clash_data line clash word =
+    object (member (codes "clash") (count_data clash)
+    (member (codes "line") (count_data line) (member (codes "refused") (string word) no_members)))
 
 unfoldable pub refused_data : ℕ → Cause → Data
 refused_data line TooLong = plain_data line (cause_word TooLong)
@@ -79,11 +96,15 @@ refused_data line TooManyFacts = plain_data line (cause_word TooManyFacts)
 refused_data line (Contradiction clash) = clash_data line clash (cause_word (Contradiction clash))
 
 unfoldable pub end_data : ℕ → ℕ → Data
-end_data accepted refused = object (member (codes "accepted") (count_data accepted) (member (codes "end") (boolean true) (member (codes "refused") (count_data refused) no_members)))
+end_data accepted refused =
+    object (member (codes "accepted") (count_data accepted)
+    (member (codes "end") (boolean true)
+    (member (codes "refused") (count_data refused) no_members)))
 
 -- the object of an event
 abbrev pub event_data : Declared → List Tcq → Event → Data
-event_data ontology queries (Accepted line accepted answers kept) = accepted_data line accepted (answers_data ontology.individuals queries kept answers)
+event_data ontology queries (Accepted line accepted answers kept) =
+    accepted_data line accepted (answers_data ontology.individuals queries kept answers)
 event_data ontology queries (Refused line cause) = refused_data line cause
 event_data ontology queries (End accepted refused) = end_data accepted refused
 

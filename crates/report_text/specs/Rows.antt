@@ -1,11 +1,14 @@
--- The rows of a report in CSV form. A row is what the csv library's default writer writes for its fields.
+-- The rows of a report in CSV form. A row is what the csv library's default writer writes for its
+-- fields.
 use Rattle.std.specs.Prelude.{ℕ, ◌<◌, ◌^◌, List, [], ◌∷◌, ◌++◌, codes, decimal, flat_map}
 use Rattle.csv.specs.Writing.{default_writer, row_text}
 use Rattle.dl_syntax.specs.declared.names.IndId.{IndId}
 use Rattle.dl_syntax.specs.Ontology.{Declared}
 use Rattle.tcq_syntax.specs.Tcq.{Tcq}
 use Rattle.report_text.specs.declared.item.Cause.{Cause}
-use Rattle.report_text.specs.declared.item.Cause.TheVariants.{TooLong, Malformed, Unknown, WrongKind, Undeclared, TooManyFacts, Contradiction}
+use Rattle.report_text.specs.declared.item.Cause.TheVariants.{TooLong, Malformed, Unknown}
+use Rattle.report_text.specs.declared.item.Cause.TheVariants.{WrongKind, Undeclared, TooManyFacts}
+use Rattle.report_text.specs.declared.item.Cause.TheVariants.{Contradiction}
 use Rattle.report_text.specs.declared.item.Item.{Item}
 use Rattle.report_text.specs.declared.item.Item.TheVariants.{Accepted, Answer, Kept, Refused, End}
 use Rattle.report_text.specs.Names.{Text, name_text, separated, query_name}
@@ -16,7 +19,8 @@ row fields = row_text default_writer fields
 
 -- the names of the columns
 abbrev pub heading_row : Text
-heading_row = row (codes "line" ∷ codes "event" ∷ codes "number" ∷ codes "name" ∷ codes "detail" ∷ [])
+heading_row = row (codes "line" ∷ codes "event" ∷ codes "number" ∷ codes "name" ∷ codes "detail"
+    ∷ [])
 
 -- the word for a cause
 abbrev pub cause_word : Cause → Text
@@ -48,7 +52,9 @@ abbrev pub accepted_row : ℕ → ℕ → Text
 accepted_row line number = row (decimal line ∷ codes "accepted" ∷ decimal number ∷ [] ∷ [] ∷ [])
 
 abbrev pub answer_row : List Text → ℕ → ℕ → Text → List IndId → Text
-answer_row names line number query individuals = row (decimal line ∷ codes "answer" ∷ decimal number ∷ query ∷ individuals_text names individuals ∷ [])
+answer_row names line number query individuals =
+    row (decimal line ∷ codes "answer" ∷ decimal number ∷ query ∷ individuals_text names individuals
+    ∷ [])
 
 -- a row for each answer of one query
 abbrev pub answer_rows : List Text → ℕ → ℕ → Text → List (List IndId) → Text
@@ -58,7 +64,8 @@ abbrev pub kept_row : ℕ → ℕ → Text → Text
 kept_row line size query = row (decimal line ∷ codes "kept" ∷ decimal size ∷ query ∷ [] ∷ [])
 
 abbrev pub refused_row : ℕ → Cause → Text
-refused_row line cause = row (decimal line ∷ codes "refused" ∷ cause_number cause ∷ cause_word cause ∷ cause_name cause ∷ [])
+refused_row line cause = row (decimal line ∷ codes "refused" ∷ cause_number cause ∷ cause_word cause
+    ∷ cause_name cause ∷ [])
 
 abbrev pub end_row : ℕ → ℕ → Text
 end_row accepted refused = row ([] ∷ codes "end" ∷ decimal accepted ∷ [] ∷ decimal refused ∷ [])
@@ -66,14 +73,17 @@ end_row accepted refused = row ([] ∷ codes "end" ∷ decimal accepted ∷ [] �
 -- the row of an item
 abbrev pub item_row : Declared → List Tcq → Item → Text
 item_row ontology queries (Accepted line number) = accepted_row line number
-item_row ontology queries (Answer line number query individuals) = answer_row ontology.individuals line number (query_name queries query) individuals
+item_row ontology queries (Answer line number query individuals) =
+    answer_row ontology.individuals line number (query_name queries query) individuals
 item_row ontology queries (Kept line query size) = kept_row line size (query_name queries query)
 item_row ontology queries (Refused line cause) = refused_row line cause
 item_row ontology queries (End accepted refused) = end_row accepted refused
 
--- the fields that the answers of a query share, each with the comma after it, where none needs quotes
+-- the fields that the answers of a query share, each with the comma after it, where none needs
+-- quotes
 abbrev pub answer_front : ℕ → ℕ → Text → Text
-answer_front line number query = decimal line ++ codes ",answer," ++ decimal number ++ codes "," ++ query ++ codes ","
+answer_front line number query = decimal line ++ codes ",answer," ++ decimal number ++ codes ","
+    ++ query ++ codes ","
 
 -- what follows them in the row of an answer
 abbrev pub answer_detail : List Text → List IndId → Text

@@ -1,10 +1,13 @@
-// The events of a stream, and the bytes that a report tells of them.
+//! The events of a stream, and the bytes that a report tells of them.
+
 ghost use Rattle.std.specs.Prelude.{◌≡◌, ◌++◌, OnOk, OnErr, IfOk, take, vec_len, flat_map};
 ghost use Rattle.dl_syntax.specs.Names.{IsName};
 ghost use Rattle.report_text.specs.Names.{AreNamed, AreSpelled, IsSpelledCause};
-ghost use Rattle.report_text.specs.Lines.{accepted_in, answers_in, end_in, line_in, refused_in, size_in};
+ghost use Rattle.report_text.specs.Lines.{accepted_in, answers_in, end_in, line_in, refused_in};
+ghost use Rattle.report_text.specs.Lines.{size_in};
 ghost use Rattle.report_text.specs.Objects.{object_text};
-ghost use Rattle.report_text.specs.Events.{AreAnswered, EventHasNames, event_text, items_of, query_items, report_heading_text};
+ghost use Rattle.report_text.specs.Events.{AreAnswered, EventHasNames, event_text, items_of};
+ghost use Rattle.report_text.specs.Events.{query_items, report_heading_text};
 
 use crate::item::Cause;
 use crate::line::{append_answers, append_kept, append_refused, append_two, heading};

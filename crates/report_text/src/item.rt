@@ -1,3 +1,5 @@
+//! The items of a report.
+
 use dl_syntax::{Name, Row};
 
 /// Why a line of the stream is refused.

@@ -1,7 +1,11 @@
-// The bytes of a report's lines, appended to a buffer that is used again.
-ghost use Rattle.std.specs.Prelude.{◌≡◌, ◌++◌, ◌<◌, All, [], length, OnOk, OnErr, IfOk, take, vec_len};
+//! The bytes of a report's lines, appended to a buffer that is used again.
+
+ghost use Rattle.std.specs.Prelude.{◌≡◌, ◌++◌, ◌<◌, All, [], length, OnOk, OnErr, IfOk, take};
+ghost use Rattle.std.specs.Prelude.{vec_len};
 ghost use Rattle.report_text.specs.Names.{IsNamed, AreNamed, HasNames};
-ghost use Rattle.report_text.specs.Lines.{IsSpelledIn, cause_text, row_text, answer_text, answers_text, kept_text, two_text, refused_text, line_text, line_in, heading_text};
+ghost use Rattle.report_text.specs.Lines.{IsSpelledIn, cause_text, row_text, answer_text};
+ghost use Rattle.report_text.specs.Lines.{answers_text, kept_text, two_text, refused_text};
+ghost use Rattle.report_text.specs.Lines.{line_text, line_in, heading_text};
 
 use crate::item::{Cause, Item};
 use crate::numbers::append_number;

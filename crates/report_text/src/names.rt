@@ -1,4 +1,5 @@
-// The names of individuals, and how they are spelled.
+//! The names of individuals, and how they are spelled.
+
 ghost use Rattle.std.specs.Prelude.{◌≡◌, ◌<◌, length};
 ghost use Rattle.report_text.specs.Names.{AreIndividualsSpelled, name_text};
 

@@ -1,3 +1,5 @@
+//! Numbers in decimal.
+
 ghost use Rattle.std.specs.Prelude.{◌≡◌, ◌++◌, decimal, OnOk, take, vec_len};
 
 use dl_syntax::Memory;

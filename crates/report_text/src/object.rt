@@ -1,12 +1,18 @@
-// The lines of a report in JSON form. A name needs no escapes, so it is appended as it is.
-ghost use Rattle.std.specs.Prelude.{◌≡◌, ◌++◌, ◌<◌, OnOk, take, vec_len, codes, decimal, false, length, map, nat_lt};
+//! The lines of a report in JSON form. A name needs no escapes, so it is appended as it is.
+
+ghost use Rattle.std.specs.Prelude.{◌≡◌, ◌++◌, ◌<◌, OnOk, take, vec_len, codes, decimal, false};
+ghost use Rattle.std.specs.Prelude.{length, map, nat_lt};
 ghost use Rattle.serde_json.specs.Data.{string};
 ghost use Rattle.serde_json.specs.View.{items_of};
 ghost use Rattle.serde_json.specs.Written.{comma_if, items_text};
 ghost use Rattle.dl_syntax.specs.Names.{IsName};
-ghost use Rattle.report_text.specs.Names.{AreIndividualsSpelled, AreNamed, AreSpelled, IsNamed, IsSpelledCause};
+ghost use Rattle.report_text.specs.Names.{AreIndividualsSpelled, AreNamed, AreSpelled, IsNamed};
+ghost use Rattle.report_text.specs.Names.{IsSpelledCause};
 ghost use Rattle.report_text.specs.Rows.{cause_word};
-ghost use Rattle.report_text.specs.Objects.{IsVerbatim, accepted_data, answers_data, clash_data, end_data, name_data, named_data, object_line, plain_data, queries_data, query_data, refused_data, size_at, size_text, tuple_data, value_text};
+ghost use Rattle.report_text.specs.Objects.{IsVerbatim, accepted_data, answers_data, clash_data};
+ghost use Rattle.report_text.specs.Objects.{end_data, name_data, named_data, object_line};
+ghost use Rattle.report_text.specs.Objects.{plain_data, queries_data, query_data, refused_data};
+ghost use Rattle.report_text.specs.Objects.{size_at, size_text, tuple_data, value_text};
 ghost use Rattle.report_text.specs.Events.{AreAnswered};
 
 use crate::item::Cause;

@@ -1,7 +1,9 @@
-// The lines that tell the rewriting of a query, appended to a buffer that is used again.
+//! The lines that tell the rewriting of a query, appended to a buffer that is used again.
+
 ghost use Rattle.std.specs.Prelude.{◌≡◌, ◌++◌, OnOk, OnErr, IfOk, take, vec_len, codes, flat_map};
 ghost use Rattle.dl_syntax.specs.Ontology.{names_of};
-ghost use Rattle.report_text.specs.Queries.{name_text, term_text, atom_text, head_text, body_text, cq_text, cq_line, leaf_line};
+ghost use Rattle.report_text.specs.Queries.{name_text, term_text, atom_text, head_text, body_text};
+ghost use Rattle.report_text.specs.Queries.{cq_text, cq_line, leaf_line};
 
 use crate::line::append_two;
 use crate::numbers::append_number;
@@ -152,9 +154,8 @@ fn try_append_cq(out: &mut Vec<u8>, cq: &Cq, ontology: &Ontology) -> Result<(), 
 }
 
 /// Appends the text of a conjunctive query, `cq (H) = [A, A]` without a newline: H is the terms of
-/// its
-/// head separated by a space, variable 3 is `?v3`, and a number that no name has has no text. The
-/// buffer is as before where memory runs out.
+/// its head separated by a space, variable 3 is `?v3`, and a number that no name has has no text.
+/// The buffer is as before where memory runs out.
 pub fn append_cq(out: &mut Vec<u8>, cq: &Cq, ontology: &Ontology) -> Result<(), Memory>
     ensures ok { OnOk result (out.new.items ≡ out.old.items ++ cq_text ontology.now cq.now) }
     ensures err { OnErr result (out.new.items ≡ out.old.items) }
@@ -187,9 +188,8 @@ fn try_append_leaf(out: &mut Vec<u8>, query: &[u8], place: u64, count: u64) -> R
     append_two(out, b" ", place, b" ", count)
 }
 
-/// Appends the line before those of a leaf: the query's name, the leaf's place among the nodes,
-/// and how
-/// many lines follow. The buffer is as before where memory runs out.
+/// Appends the line before those of a leaf: the query's name, the leaf's place among the nodes, and
+/// how many lines follow. The buffer is as before where memory runs out.
 pub fn append_leaf(out: &mut Vec<u8>, query: &[u8], place: u64, count: u64) -> Result<(), Memory>
     ensures ok { OnOk result (out.new.items ≡ out.old.items ++ leaf_line query.now place count) }
     ensures err { OnErr result (out.new.items ≡ out.old.items) }

@@ -1,9 +1,14 @@
-// The rows of a report in CSV form. What they tell needs no quotes, so it is appended as it is.
+//! The rows of a report in CSV form. What they tell needs no quotes, so it is appended as it is.
+
 ghost use Rattle.std.specs.Prelude.{◌≡◌, ◌++◌, ◌+◌, ◌≤◌, OnOk, codes, take, length, vec_len};
 ghost use Rattle.arrayvec.specs.ArrayVec.{array_vec_len};
 ghost use Rattle.dl_syntax.specs.Names.{IsName};
-ghost use Rattle.report_text.specs.Names.{IsNamed, AreNamed, HasNames, AreSpelled, IsSpelledCause, IsSpelledItem};
-ghost use Rattle.report_text.specs.Rows.{HasSmallClash, cause_word, cause_name, cause_number, individuals_text, accepted_row, answer_row, answer_rows, answer_front, answer_detail, kept_row, refused_row, end_row, item_row};
+ghost use Rattle.report_text.specs.Names.{IsNamed, AreNamed, HasNames, AreSpelled, IsSpelledCause};
+ghost use Rattle.report_text.specs.Names.{IsSpelledItem};
+ghost use Rattle.report_text.specs.Rows.{HasSmallClash, cause_word, cause_name, cause_number};
+ghost use Rattle.report_text.specs.Rows.{individuals_text, accepted_row, answer_row, answer_rows};
+ghost use Rattle.report_text.specs.Rows.{answer_front, answer_detail, kept_row, refused_row};
+ghost use Rattle.report_text.specs.Rows.{end_row, item_row};
 
 use crate::item::{Cause, Item};
 use crate::line::append_row;

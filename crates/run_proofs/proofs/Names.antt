@@ -5,9 +5,12 @@ use Rattle.dl_syntax.specs.Names.{IsName, IsDeclarable}
 use Rattle.dl_syntax.specs.Ontology.{Declared, IsOntology}
 use Rattle.dl_syntax.proofs.AllByCons.{All-back}
 
-pub no_name_is_marked : (o : Declared) (i : ℕ) (rest : List ℕ) → IsOntology o → i < length o.individuals → get_or o.individuals i [] ≡ 42 ∷ rest → ⊥
+pub no_name_is_marked : (o : Declared) (i : ℕ) (rest : List ℕ) → IsOntology o
+    → i < length o.individuals → get_or o.individuals i [] ≡ 42 ∷ rest → ⊥
 no_name_is_marked o i rest sound below is =
-    let all : All IsDeclarable o.individuals = All-back IsDeclarable o.roles o.individuals (All-back IsDeclarable o.concepts (o.roles ++ o.individuals) sound.spelled) in
+    let all : All IsDeclarable o.individuals =
+    All-back IsDeclarable o.roles o.individuals
+    (All-back IsDeclarable o.concepts (o.roles ++ o.individuals) sound.spelled) in
     let name : IsName (42 ∷ rest) = subst IsName is (all i [] below).0 in
     let letter : false ≡ true = name.0 in
     cc

@@ -19,14 +19,16 @@ pub record AreVariables (body : List Atom) (variables : List ℕ) : Type 0 where
   pub rising : AllPairs (λ v w. v < w) variables
   pub member : (v : ℕ) → Contains variables v ↔ IsBound body (Var v)
 
--- the elements, one for each variable of the body in rising order, make each atom of the body a fact of the run, and the head the row
-pub record IsMatch (q : Cq) (run : List Fact) (row : List IndId) (elements : List Element) : Type 0 where
-  pub variables : List ℕ
-  pub are_variables : AreVariables q.body variables
-  pub assignment : Assignment
-  pub given : map assignment variables ≡ elements
-  pub match : Match q.body run assignment
-  pub head : map (term_at assignment) q.head ≡ map ind_element row
+-- the elements, one for each variable of the body in rising order, make each atom of the body a
+-- fact of the run, and the head the row
+pub record IsMatch (q : Cq) (run : List Fact) (row : List IndId) (elements : List Element) : Type 0
+  where
+    pub variables : List ℕ
+    pub are_variables : AreVariables q.body variables
+    pub assignment : Assignment
+    pub given : map assignment variables ≡ elements
+    pub match : Match q.body run assignment
+    pub head : map (term_at assignment) q.head ≡ map ind_element row
 
 -- the facts put one element, or one pair, into the left and the right side of the clash
 abbrev pub AreSides : Clash → Fact → Fact → Type 0

@@ -1,5 +1,6 @@
 -- A proof as lines of text.
-use Rattle.std.specs.Prelude.{◌≡◌, ℕ, ◌<◌, ◌^◌, List, [], ◌∷◌, ◌++◌, codes, decimal, flat_map, map, length, slice_index_or, Option, Some, None, slice_get}
+use Rattle.std.specs.Prelude.{◌≡◌, ℕ, ◌<◌, ◌^◌, List, [], ◌∷◌, ◌++◌, codes, decimal, flat_map, map}
+use Rattle.std.specs.Prelude.{length, slice_index_or, Option, Some, None, slice_get}
 use Rattle.dl_syntax.specs.declared.facts.Element.{Element}
 use Rattle.dl_syntax.specs.declared.facts.Element.TheVariants.{Ind as ind_element, Null}
 use Rattle.dl_syntax.specs.declared.facts.Fact.{Fact}
@@ -34,7 +35,8 @@ element_text names (ind_element i) = slice_index_or names i.0 []
 element_text names (Null number) = 42 ∷ decimal number
 
 abbrev pub ending_text : List Text → Ending → Text
-ending_text names (ending.Match elements) = codes "match" ++ flat_map (λ e. 32 ∷ element_text names e) elements.items
+ending_text names (ending.Match elements) =
+    codes "match" ++ flat_map (λ e. 32 ∷ element_text names e) elements.items
 ending_text names (ending.Places first second) = places_text first second
 
 abbrev pub query_name : Option Tcq → Text
@@ -46,12 +48,16 @@ abbrev pub clash_text : ℕ → Text
 clash_text number = codes "proof clash " ++ decimal number
 
 abbrev pub goal_text : List Text → List Tcq → Goal → Text
-goal_text names queries (goal.Answer query leaf row) = codes "proof answer " ++ query_name (slice_get queries query) ++ 32 ∷ decimal leaf ++ flat_map (λ i. 32 ∷ slice_index_or names i.0 []) row
+goal_text names queries (goal.Answer query leaf row) =
+    codes "proof answer " ++ query_name (slice_get queries query) ++ 32 ∷ decimal leaf
+    ++ flat_map (λ i. 32 ∷ slice_index_or names i.0 []) row
 goal_text names queries (goal.Clash number) = clash_text number
 
 abbrev pub fact_text : Declared → Fact → Text
-fact_text o (fact.Concept c x) = slice_index_or o.concepts c.0 [] ++ 40 ∷ element_text o.individuals x ++ 41 ∷ []
-fact_text o (fact.Role p x y) = slice_index_or o.roles p.0 [] ++ 40 ∷ element_text o.individuals x ++ 44 ∷ element_text o.individuals y ++ 41 ∷ []
+fact_text o (fact.Concept c x) =
+    slice_index_or o.concepts c.0 [] ++ 40 ∷ element_text o.individuals x ++ 41 ∷ []
+fact_text o (fact.Role p x y) = slice_index_or o.roles p.0 [] ++ 40 ∷ element_text o.individuals x
+    ++ 44 ∷ element_text o.individuals y ++ 41 ∷ []
 
 -- the facts stand without blanks between them, after one blank where there are any
 abbrev pub snapshot_text : Declared → List Fact → Text
@@ -80,7 +86,8 @@ IsNoPair text = (m n : ℕ) → m < 2 ^ 32 → n < 2 ^ 32 → text ≡ pair_text
 
 -- no step is
 abbrev pub IsNoStep : Text → Type 0
-IsNoStep line = (step : ProofStep) → step.from < 2 ^ 32 → step.inclusion < 2 ^ 32 → line ≡ step_text step → ⊥
+IsNoStep line = (step : ProofStep) → step.from < 2 ^ 32 → step.inclusion < 2 ^ 32
+    → line ≡ step_text step → ⊥
 
 -- no two places are
 abbrev pub AreNoPlaces : Text → Type 0

@@ -1,11 +1,15 @@
-ghost use Rattle.std.specs.Prelude.{◌≡◌, ◌≢◌, ◌+◌, ◌*◌, ◌<◌, ◌^◌, ◌++◌, ◌↔◌, [], length, Option, IfSome, IfOk, IsTrue};
+//! Whether a proof shows its goal.
+
+ghost use Rattle.std.specs.Prelude.{◌≡◌, ◌≢◌, ◌+◌, ◌*◌, ◌<◌, ◌^◌, ◌++◌, ◌↔◌, [], length, Option};
+ghost use Rattle.std.specs.Prelude.{IfSome, IfOk, IsTrue};
 ghost use Rattle.std.specs.List.{All};
 ghost use Rattle.std.specs.Option.{option_map};
 ghost use Rattle.dl_syntax.specs.Queries.{IsBound};
 ghost use Rattle.run_proofs.specs.declared.proof.Goal.TheVariants as goal;
 ghost use Rattle.run_proofs.specs.declared.proof.Ending.TheVariants as ending;
 ghost use Rattle.run_proofs.specs.Matching.{IsMatch, MeetsAt};
-ghost use Rattle.run_proofs.specs.Shows.{leaf_of_node, leaf_at, clash_of, EndsAnswer, EndsClash, Ends, Shows};
+ghost use Rattle.run_proofs.specs.Shows.{leaf_of_node, leaf_at, clash_of, EndsAnswer, EndsClash};
+ghost use Rattle.run_proofs.specs.Shows.{Ends, Shows};
 ghost use Rattle.run_proofs.specs.Growing.{made_in, run_after, NamesBoth, AllMake};
 
 use crate::matching::{is_match, meets_at};

@@ -1,3 +1,5 @@
+//! Elements as words.
+
 ghost use Rattle.std.specs.Prelude.{◌≡◌, ◌<◌, length, MatchOption};
 ghost use Rattle.dl_syntax.specs.declared.names.IndId.{IndId};
 ghost use Rattle.dl_syntax.specs.declared.facts.Element.TheVariants.{Ind as ind_element};

@@ -1,5 +1,6 @@
 //! Laws of the definitions, each the contract of a function with nothing to do.
-ghost use Rattle.run_proofs.specs.Laws.{StepsMakeRun, RunsHaveSteps, ShownHolds, OneStep, OnePairOfPlaces};
+ghost use Rattle.run_proofs.specs.Laws.{StepsMakeRun, RunsHaveSteps, ShownHolds, OneStep};
+ghost use Rattle.run_proofs.specs.Laws.{OnePairOfPlaces};
 
 /// Steps that name facts by their places lead from a run to a run.
 pub fn steps_make_run()

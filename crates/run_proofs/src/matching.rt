@@ -1,3 +1,5 @@
+//! Whether elements make a leaf true in a run.
+
 ghost use Rattle.std.specs.Prelude.{◌≡◌, ◌↔◌, length, map, IsTrue, IfOk};
 ghost use Rattle.std.specs.List.{All, Contains};
 ghost use Rattle.dl_syntax.specs.Queries.{IsBound};

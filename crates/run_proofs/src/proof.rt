@@ -1,3 +1,5 @@
+//! Proofs by steps of the chase.
+
 use dl_syntax::{Element, Row, Snapshot};
 
 /// What a proof is to show.

@@ -1,6 +1,10 @@
-ghost use Rattle.std.specs.Prelude.{◌≤◌, length, take, ◌≡◌, ◌≢◌, ◌++◌, ◌∷◌, ◌↔◌, ℕ, decimal, codes, IsTrue, MatchOption, List};
+//! The lines of a proof, read.
+
+ghost use Rattle.std.specs.Prelude.{◌≤◌, length, take, ◌≡◌, ◌≢◌, ◌++◌, ◌∷◌, ◌↔◌, ℕ, decimal, codes};
+ghost use Rattle.std.specs.Prelude.{IsTrue, MatchOption, List};
 ghost use Rattle.std.specs.List.{All};
-ghost use Rattle.run_proofs.specs.Texts.{pair_text, step_text, places_text, IsNoNumber, IsNoPair, IsNoStep, AreNoPlaces};
+ghost use Rattle.run_proofs.specs.Texts.{pair_text, step_text, places_text, IsNoNumber, IsNoPair};
+ghost use Rattle.run_proofs.specs.Texts.{IsNoStep, AreNoPlaces};
 ghost use Rattle.run_proofs.specs.Texts.{clash_text, IsNoClash};
 
 use crate::proof::ProofStep;

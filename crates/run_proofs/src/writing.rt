@@ -1,3 +1,5 @@
+//! The lines of a proof, written.
+
 ghost use Rattle.std.specs.Prelude.{◌≡◌, ◌++◌, decimal, OnOk};
 ghost use Rattle.run_proofs.specs.Texts.{pair_text, step_text, places_text, clash_text};
 

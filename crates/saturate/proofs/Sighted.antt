@@ -1,5 +1,6 @@
 -- What is looked at stays so.
-use Rattle.std.proofs.Common.{◌≡◌, ℕ, zero, suc, ◌<◌, Bool, true, List, [], ◌∷◌, ◌++◌, length, refl, arith, inl, inr}
+use Rattle.std.proofs.Common.{◌≡◌, ℕ, zero, suc, ◌<◌, Bool, true, List, [], ◌∷◌, ◌++◌, length, refl}
+use Rattle.std.proofs.Common.{arith, inl, inr}
 use Rattle.std.specs.Prelude.{◌⊎◌}
 use Rattle.std.specs.List.{All}
 use Rattle.std.proofs.Math.ListN.{set}
@@ -22,19 +23,23 @@ marks_set (m ∷ marks) zero (suc k) there = there
 marks_set (m ∷ marks) (suc place) zero there = there
 marks_set (m ∷ marks) (suc place) (suc k) there = marks_set marks place k there
 
-pub set_marked : (marks : List Bool) (place : ℕ) → place < length marks → IsMarked (set marks place true) place
+pub set_marked : (marks : List Bool) (place : ℕ) → place < length marks
+    → IsMarked (set marks place true) place
 set_marked [] place within = absurd (omega arith)
 set_marked (m ∷ marks) zero within = refl
 set_marked (m ∷ marks) (suc place) within = set_marked marks place (omega arith)
 
 -- marks that are kept keep what is looked at
-pub sight_kept : (old new : Sight) → old.all ≡ new.all → KeepsMarks old.concepts.items new.concepts.items → KeepsMarks old.roles.items new.roles.items → KeepsSight old new
+pub sight_kept : (old new : Sight) → old.all ≡ new.all
+    → KeepsMarks old.concepts.items new.concepts.items → KeepsMarks old.roles.items new.roles.items
+    → KeepsSight old new
 sight_kept old new same concepts roles = record {
   concepts = λ c seen. by old.concepts.items new.concepts.items c.0 concepts seen;
   roles = λ p seen. by old.roles.items new.roles.items p.0 roles seen;
 }
   where
-    by : (xs ys : List Bool) (k : ℕ) → KeepsMarks xs ys → (old.all ≡ true) ⊎ IsMarked xs k → (new.all ≡ true) ⊎ IsMarked ys k
+    by : (xs ys : List Bool) (k : ℕ) → KeepsMarks xs ys → (old.all ≡ true) ⊎ IsMarked xs k
+        → (new.all ≡ true) ⊎ IsMarked ys k
     by xs ys k keeps (inl all) = inl (cc)
     by xs ys k keeps (inr there) = inr (keeps k there)
 
@@ -43,7 +48,12 @@ kept_same sight = record { concepts = λ c seen. seen; roles = λ p seen. seen }
 
 module _ (old mid new : Sight) (later : KeepsSight mid new) where
   pub kept_both : KeepsSight old mid → KeepsSight old new
-  kept_both before = record { concepts = λ c seen. later.concepts c (before.concepts c seen); roles = λ p seen. later.roles p (before.roles p seen) }
+  kept_both before = record {
+    concepts =
+        λ c seen. later.concepts c (before.concepts c seen);
+    roles =
+        λ p seen. later.roles p (before.roles p seen);
+  }
 
   pub atom_kept : (a : Atom) → SeesAtom mid a → SeesAtom new a
   atom_kept (atom.Concept c x) seen = later.concepts c seen
@@ -53,4 +63,5 @@ module _ (old mid new : Sight) (later : KeepsSight mid new) where
   body_kept body seen = All-weaker (SeesAtom mid) (SeesAtom new) atom_kept body seen
 
   pub union_kept : (union : List Cq) → SeesUnion mid union → SeesUnion new union
-  union_kept union seen = All-weaker (SeesQuery mid) (SeesQuery new) (λ q each. body_kept q.body each) union seen
+  union_kept union seen = All-weaker (SeesQuery mid) (SeesQuery new) (λ q each.
+      body_kept q.body each) union seen

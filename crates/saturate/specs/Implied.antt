@@ -23,7 +23,8 @@ IsPairing roles a b g = (s : Role) × Contains roles s × (g ≡ role_fact s a b
 
 -- the fact puts the element into a concept above the basic concept
 abbrev pub IsMemberAbove : List Inclusion → Basic → Element → Fact → Type 0
-IsMemberAbove inclusions b a g = (c : ConceptId) × IsAbove inclusions b (basic.Concept c) × (g ≡ fact.Concept c a)
+IsMemberAbove inclusions b a g = (c : ConceptId) × IsAbove inclusions b (basic.Concept c)
+    × (g ≡ fact.Concept c a)
 
 -- the fact makes the two elements a pair of a basic role above the role
 abbrev pub IsPairAbove : List Inclusion → Role → Element → Element → Fact → Type 0
@@ -32,7 +33,9 @@ IsPairAbove inclusions r a b g = (s : Role) × IsAboveRole inclusions r s × (g 
 -- the first fact by itself implies the second, which names none but its elements
 abbrev pub Implies : List Inclusion → Fact → Fact → Type 0
 Implies inclusions (fact.Concept c a) g = IsMemberAbove inclusions (basic.Concept c) a g
-Implies inclusions (fact.Role p a b) g = IsPairAbove inclusions (forward p.0) a b g ⊎ IsMemberAbove inclusions (basic.Some (forward p.0)) a g ⊎ IsMemberAbove inclusions (basic.Some (backward p.0)) b g
+Implies inclusions (fact.Role p a b) g = IsPairAbove inclusions (forward p.0) a b g
+    ⊎ IsMemberAbove inclusions (basic.Some (forward p.0)) a g
+    ⊎ IsMemberAbove inclusions (basic.Some (backward p.0)) b g
 
 -- some of the facts implies it
 abbrev pub IsImplied : List Inclusion → List Fact → Fact → Type 0
@@ -40,4 +43,5 @@ IsImplied inclusions facts g = (f : Fact) × Contains facts f × Implies inclusi
 
 -- for each list of facts there is a list of exactly what they imply
 abbrev pub HasAllImplied : List Inclusion → Type 0
-HasAllImplied inclusions = (facts : List Fact) → (keys : List Fact) × Absorbs (IsImplied inclusions facts) [] keys
+HasAllImplied inclusions = (facts : List Fact)
+    → (keys : List Fact) × Absorbs (IsImplied inclusions facts) [] keys

@@ -54,4 +54,6 @@ Seen sight P f = P f × Sees sight f
 
 -- exactly what is looked at of a saturation
 abbrev pub IsSeenSaturation : List Inclusion → Sight → List Fact → List Fact → Type 0
-IsSeenSaturation inclusions sight snapshot facts = (whole : List Fact) × IsSaturation inclusions snapshot whole × ((f : Fact) → Contains facts f ↔ Seen sight (Contains whole) f)
+IsSeenSaturation inclusions sight snapshot facts =
+    (whole : List Fact) × IsSaturation inclusions snapshot whole
+    × ((f : Fact) → Contains facts f ↔ Seen sight (Contains whole) f)

@@ -1,8 +1,10 @@
-// What inclusions put directly above what, and all that stands above a basic concept.
+//! What inclusions put directly above what, and all that stands above a basic concept.
+
 ghost use Rattle.std.specs.Prelude.{◌≡◌, ◌++◌, ◌<◌, ◌^◌, ◌*◌, ◌≤◌, length, IfOk, OnOk};
 ghost use Rattle.worklist.specs.Reach.{IsClosure};
 ghost use Rattle.saturate.specs.Derived.{inverse_of};
-ghost use Rattle.saturate.specs.Above.{arrows_of, all_arrows, Along, source_of, number_in as number_of, IsIndex, IsNext};
+ghost use Rattle.saturate.specs.Above.{arrows_of, all_arrows, Along, source_of};
+ghost use Rattle.saturate.specs.Above.{number_in as number_of, IsIndex, IsNext};
 
 use dl_syntax::{Basic, ConceptId, Inclusion, Memory, Role, RoleId};
 use indexmap::IndexSet;
@@ -142,7 +144,9 @@ impl Model for Graph {
 
     ghost view = { λ g. g.arrows.items };
 
-    ghost invariant = { λ g. IsIndex Member g.arrows.items g.members.items × IsIndex First g.arrows.items g.firsts.items × IsIndex Second g.arrows.items g.seconds.items };
+    ghost invariant = { λ g. IsIndex Member g.arrows.items g.members.items
+        × IsIndex First g.arrows.items g.firsts.items
+        × IsIndex Second g.arrows.items g.seconds.items };
 }
 
 impl Graph {

@@ -1,9 +1,11 @@
-// The facts that a snapshot and an ontology give of individuals.
+//! The facts that a snapshot and an ontology give of individuals.
+
 ghost use Rattle.std.specs.Prelude.{◌≡◌, [], IfOk, OnOk};
 ghost use Rattle.dl_syntax.specs.Facts.{role_fact as fact_of_role};
 ghost use Rattle.dl_syntax.specs.Saturation.{IsSaturation};
 ghost use Rattle.saturate.specs.Lists.{Absorbs};
-ghost use Rattle.saturate.specs.Implied.{IsMembership, IsPairing, Implies, IsImplied, HasAllImplied};
+ghost use Rattle.saturate.specs.Implied.{IsMembership, IsPairing, Implies, IsImplied};
+ghost use Rattle.saturate.specs.Implied.{HasAllImplied};
 ghost use Rattle.saturate.specs.Sight.{Seen, IsSeenSaturation};
 
 use crate::graph::{Graph, Place, Scope};
@@ -15,7 +17,8 @@ use std::alloc::Global;
 use std::marker::Model;
 use worklist::list_at;
 
-/// What saturation needs of an ontology, made once for many snapshots: for each concept and role what stands above it. Seen as the ontology's inclusions.
+/// What saturation needs of an ontology, made once for many snapshots: for each concept and role
+/// what stands above it. Seen as the ontology's inclusions.
 #[derive(Drop)]
 pub struct Saturator {
     inclusions: Vec<Inclusion>,
@@ -35,7 +38,10 @@ impl Model for Saturator {
 
     ghost view = { λ s. s.inclusions.items };
 
-    ghost invariant = { λ s. IsConceptTable s.inclusions.items Member s.members.items × IsConceptTable s.inclusions.items First s.firsts.items × IsConceptTable s.inclusions.items Second s.seconds.items × IsRoleTable s.inclusions.items s.roles.items };
+    ghost invariant = { λ s. IsConceptTable s.inclusions.items Member s.members.items
+        × IsConceptTable s.inclusions.items First s.firsts.items
+        × IsConceptTable s.inclusions.items Second s.seconds.items
+        × IsRoleTable s.inclusions.items s.roles.items };
 }
 
 /// The fact that makes the two elements a pair of the role.
@@ -51,7 +57,8 @@ fn role_fact(role: &Role, first: Element, second: Element) -> Fact
 
 /// Adds the fact, if it is looked at.
 fn add(found: &mut IndexSet<Fact>, sight: &Sight, fact: Fact) -> Result<(), Memory>
-    ensures { OnOk result (Absorbs (Seen sight.now (λ other. fact ≡ other)) found.old.keys found.new.keys) }
+    ensures { OnOk result (Absorbs (Seen sight.now (λ other. fact ≡ other)) found.old.keys
+        found.new.keys) }
 {
     if !sight.sees(&fact) {
         return Ok(());
@@ -67,7 +74,8 @@ fn add_memberships(
     concepts: &[ConceptId],
     element: Element,
 ) -> Result<(), Memory>
-    ensures { OnOk result (Absorbs (Seen sight.now (IsMembership concepts.now element)) found.old.keys found.new.keys) }
+    ensures { OnOk result (Absorbs (Seen sight.now (IsMembership concepts.now element))
+        found.old.keys found.new.keys) }
 {
     for concept in concepts {
         add(found, sight, Fact::Concept(*concept, element))?;
@@ -83,7 +91,8 @@ fn add_pairings(
     first: Element,
     second: Element,
 ) -> Result<(), Memory>
-    ensures { OnOk result (Absorbs (Seen sight.now (IsPairing roles.now first second)) found.old.keys found.new.keys) }
+    ensures { OnOk result (Absorbs (Seen sight.now (IsPairing roles.now first second))
+        found.old.keys found.new.keys) }
 {
     for role in roles {
         add(found, sight, role_fact(role, first, second))?;
@@ -121,7 +130,8 @@ impl Saturator {
         sight: &Sight,
         fact: &Fact,
     ) -> Result<(), Memory>
-        ensures { OnOk result (Absorbs (Seen sight.now (Implies self.now fact.now)) found.old.keys found.new.keys) }
+        ensures { OnOk result (Absorbs (Seen sight.now (Implies self.now fact.now)) found.old.keys
+            found.new.keys) }
     {
         add(found, sight, *fact)?;
         match *fact {
@@ -154,7 +164,8 @@ impl Saturator {
         sight: &Sight,
         facts: &[Fact],
     ) -> Result<IndexSet<Fact>, Memory>
-        ensures { IfOk result (λ found. Absorbs (Seen sight.now (IsImplied self.now facts.now)) [] found.keys) }
+        ensures { IfOk result (λ found.
+            Absorbs (Seen sight.now (IsImplied self.now facts.now)) [] found.keys) }
     {
         let mut found = IndexSet::with_capacity(alloc, facts.len())?;
         for fact in facts {
@@ -170,7 +181,9 @@ impl Saturator {
         let _inclusions = &self.inclusions;
     }
 
-    /// Exactly the facts over individuals that some run of the snapshot holds and whose predicates are looked at, each once, in an order of the call's choice: one look-up for each fact, and an insertion for each that it implies and that is looked at.
+    /// Exactly the facts over individuals that some run of the snapshot holds and whose predicates
+    /// are looked at, each once, in an order of the call's choice: one look-up for each fact, and
+    /// an insertion for each that it implies and that is looked at.
     pub fn saturate_seen(
         &self,
         alloc: Global,
@@ -185,7 +198,8 @@ impl Saturator {
         Ok(Snapshot::new(facts))
     }
 
-    /// Exactly the facts over individuals that some run of the snapshot holds, each once, in an order of the call's choice.
+    /// Exactly the facts over individuals that some run of the snapshot holds, each once, in an
+    /// order of the call's choice.
     pub fn saturate(&self, alloc: Global, snapshot: &Snapshot) -> Result<Snapshot, Memory>
         ensures { IfOk result (IsSaturation self.now snapshot.now) }
     {
@@ -194,7 +208,10 @@ impl Saturator {
     }
 }
 
-/// Exactly the facts over individuals that some run of the snapshot under the ontology's inclusions holds, each once, in an order of the call's choice: the snapshot's own, and what follows from them by concepts and roles alone. An inclusion with `some` on the right makes no pair of individuals, and counts by what stands above it. The chase is that of Calvanese et al. (2007).
+/// Exactly the facts over individuals that some run of the snapshot under the ontology's inclusions
+/// holds, each once, in an order of the call's choice: the snapshot's own, and what follows from
+/// them by concepts and roles alone. An inclusion with `some` on the right makes no pair of
+/// individuals, and counts by what stands above it. The chase is that of Calvanese et al. (2007).
 pub fn saturate(alloc: Global, ontology: &Ontology, snapshot: &Snapshot) -> Result<Snapshot, Memory>
     ensures { IfOk result (IsSaturation ontology.now.inclusions snapshot.now) }
 {

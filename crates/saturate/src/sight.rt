@@ -1,4 +1,5 @@
-// Which predicates are looked at.
+//! Which predicates are looked at.
+
 ghost use Rattle.std.specs.Prelude.{◌≡◌, ◌<◌, ◌^◌, ◌↔◌, length, OnOk, IsTrue};
 ghost use Rattle.std.specs.List.{All};
 ghost use Rattle.dl_syntax.specs.declared.facts.Fact.{Fact};

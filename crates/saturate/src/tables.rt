@@ -1,4 +1,5 @@
-// For each concept and role the concepts and roles above it.
+//! For each concept and role the concepts and roles above it.
+
 ghost use Rattle.std.specs.Prelude.{◌≡◌, ◌<◌, ◌^◌, ◌↔◌, ℕ, List, Contains, length, IfOk};
 ghost use Rattle.dl_syntax.specs.declared.names.ConceptId.{ConceptId};
 ghost use Rattle.dl_syntax.specs.declared.ontology.Basic.TheVariants as basic;

@@ -1,3 +1,5 @@
+//! Tests of the public calls, and the worked examples.
+
 ghost use Rattle.std.specs.Prelude.{◌≡◌, ◌≢◌, IfOk, ◌∷◌, [], length};
 ghost use Rattle.dl_syntax.specs.Facts.{HasNoNull};
 
@@ -49,7 +51,8 @@ fn snapshot_of(alloc: Global, one: Fact, other: Fact) -> Result<Snapshot, Memory
     Ok(Snapshot::new(facts))
 }
 
-// A server runs something: that is a process. That the server runs something says nothing more of it.
+// A server runs something: that is a process. That the server runs something says nothing more of
+// it.
 #[test]
 fn adds_the_process(rt: HostRuntime) {
     let server = Fact::Concept(ConceptId(0), Element::Ind(IndId(0)));

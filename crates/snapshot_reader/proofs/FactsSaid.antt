@@ -1,5 +1,6 @@
 -- What facts say, by what is known of them.
-use Rattle.std.proofs.Common.{◌≡◌, ℕ, ◌≤◌, ◌<◌, Bool, true, false, ltb, List, [], ◌∷◌, ◌++◌, length, refl, sym, ◌∙◌, arith, inl, inr}
+use Rattle.std.proofs.Common.{◌≡◌, ℕ, ◌≤◌, ◌<◌, Bool, true, false, ltb, List, [], ◌∷◌, ◌++◌, length}
+use Rattle.std.proofs.Common.{refl, sym, ◌∙◌, arith, inl, inr}
 use Rattle.std.specs.Prelude.{◌≢◌, ◌⊎◌, ◌||◌, Option, Some, None, IfSome, fold, filter_map}
 use Rattle.std.specs.List.{All, Contains, list_any, cons_option}
 use Rattle.std.specs.Option.{option_map}
@@ -13,32 +14,45 @@ use Rattle.dl_syntax.specs.declared.facts.Fact.TheVariants as fact
 use Rattle.dl_syntax.specs.Facts.{HasNoNull}
 use Rattle.dl_syntax.specs.Snapshots.{IsSnapshot}
 use Rattle.dl_syntax.specs.Ontology.{Declared, number_of}
-use Rattle.dl_syntax.proofs.AllByCons.{Contains-none, Contains-cons_cases, AllPairs-nil, AllPairs-push}
+use Rattle.dl_syntax.proofs.AllByCons.{Contains-none, Contains-cons_cases, AllPairs-nil}
+use Rattle.dl_syntax.proofs.AllByCons.{AllPairs-push}
 use Rattle.snapshot_reader.specs.Written.{Written, unary, binary}
-use Rattle.snapshot_reader.specs.Said.{first_unknown, first_misused, first_undeclared, most_facts, fact_of, same_fact, with_fact, distinct, facts_say, refused, says, unknown, wrong_kind, undeclared, too_many_facts, ◌>>=◌}
+use Rattle.snapshot_reader.specs.Said.{first_unknown, first_misused, first_undeclared, most_facts}
+use Rattle.snapshot_reader.specs.Said.{fact_of, same_fact, with_fact, distinct, facts_say, refused}
+use Rattle.snapshot_reader.specs.Said.{says, unknown, wrong_kind, undeclared, too_many_facts, ◌>>=◌}
 use Rattle.snapshot_reader.proofs.DistinctFacts.{fact_decides}
 
 -- ---- the first cause
 
-pub says_unknown : (o : Declared) (facts : List Written) (name : List ℕ) → first_unknown o facts ≡ Some name → facts_say o facts ≡ refused (unknown name)
+pub says_unknown : (o : Declared) (facts : List Written) (name : List ℕ)
+    → first_unknown o facts ≡ Some name → facts_say o facts ≡ refused (unknown name)
 unfolding facts_say
 says_unknown o facts name is = rw is refl
 
-pub says_misused : (o : Declared) (facts : List Written) (name : List ℕ) → first_unknown o facts ≡ None → first_misused o facts ≡ Some name → facts_say o facts ≡ refused (wrong_kind name)
+pub says_misused : (o : Declared) (facts : List Written) (name : List ℕ)
+    → first_unknown o facts ≡ None → first_misused o facts ≡ Some name
+    → facts_say o facts ≡ refused (wrong_kind name)
 unfolding facts_say
 says_misused o facts name known is = rw (known, is) refl
 
-pub says_undeclared : (o : Declared) (facts : List Written) (name : List ℕ) → first_unknown o facts ≡ None → first_misused o facts ≡ None → first_undeclared o facts ≡ Some name → facts_say o facts ≡ refused (undeclared name)
+pub says_undeclared : (o : Declared) (facts : List Written) (name : List ℕ)
+    → first_unknown o facts ≡ None → first_misused o facts ≡ None
+    → first_undeclared o facts ≡ Some name → facts_say o facts ≡ refused (undeclared name)
 unfolding facts_say
 says_undeclared o facts name known used is = rw (known, used, is) refl
 
-pub says_too_many : (o : Declared) (facts : List Written) → first_unknown o facts ≡ None → first_misused o facts ≡ None → first_undeclared o facts ≡ None → most_facts < length facts → facts_say o facts ≡ refused too_many_facts
+pub says_too_many : (o : Declared) (facts : List Written) → first_unknown o facts ≡ None
+    → first_misused o facts ≡ None → first_undeclared o facts ≡ None → most_facts < length facts
+    → facts_say o facts ≡ refused too_many_facts
 unfolding facts_say
 says_too_many o facts known used individuals many =
-    let test : ltb most_facts (length facts) ≡ true = (Decides-ltb most_facts (length facts)).1 many in
+    let test : ltb most_facts (length facts) ≡ true =
+    (Decides-ltb most_facts (length facts)).1 many in
     rw (known, used, individuals, test) refl
 
-pub says_facts : (o : Declared) (facts : List Written) → first_unknown o facts ≡ None → first_misused o facts ≡ None → first_undeclared o facts ≡ None → length facts ≤ most_facts → facts_say o facts ≡ says (distinct (filter_map (fact_of o) facts))
+pub says_facts : (o : Declared) (facts : List Written) → first_unknown o facts ≡ None
+    → first_misused o facts ≡ None → first_undeclared o facts ≡ None → length facts ≤ most_facts
+    → facts_say o facts ≡ says (distinct (filter_map (fact_of o) facts))
 unfolding facts_say
 says_facts o facts known used individuals few =
     let test : ltb most_facts (length facts) ≡ false = grind (arith, few) in
@@ -46,16 +60,23 @@ says_facts o facts known used individuals few =
 
 -- ---- what is said is a snapshot
 
-absent : (f : Fact) (facts : List Fact) → list_any (same_fact f) facts ≡ false → (x : Fact) → Contains facts x → x ≢ f
+absent : (f : Fact) (facts : List Fact) → list_any (same_fact f) facts ≡ false → (x : Fact)
+    → Contains facts x → x ≢ f
 absent f [] none x there = absurd (Contains-none x there)
-absent f (g ∷ facts) none x there = go (same_fact f g) refl none (λ later. absent f facts later x) (Contains-cons_cases g facts x there)
+absent f (g ∷ facts) none x there =
+    go (same_fact f g) refl none (λ later. absent f facts later x)
+    (Contains-cons_cases g facts x there)
   where
-    go : (here : Bool) → here ≡ same_fact f g → (here || list_any (same_fact f) facts) ≡ false → (list_any (same_fact f) facts ≡ false → Contains facts x → x ≢ f) → (g ≡ x) ⊎ Contains facts x → x ≢ f
+    go : (here : Bool) → here ≡ same_fact f g → (here || list_any (same_fact f) facts) ≡ false
+        → (list_any (same_fact f) facts ≡ false → Contains facts x → x ≢ f)
+        → (g ≡ x) ⊎ Contains facts x → x ≢ f
     go true is_here none later either = absurd cc
-    go false is_here none later (inl first) = λ same. let e : same_fact f g ≡ true = (fact_decides f g).1 (sym same ∙ sym first) in absurd cc
+    go false is_here none later (inl first) = λ same. let e : same_fact f g ≡ true =
+        (fact_decides f g).1 (sym same ∙ sym first) in absurd cc
     go false is_here none later (inr more) = later none more
 
-with_sound : (facts : List Fact) (f : Fact) → IsSnapshot facts → HasNoNull f → IsSnapshot (with_fact facts f)
+with_sound : (facts : List Fact) (f : Fact) → IsSnapshot facts → HasNoNull f
+    → IsSnapshot (with_fact facts f)
 with_sound facts f sound free =
     cond_both (list_any (same_fact f) facts) facts (facts ++ f ∷ []) IsSnapshot (λ _. sound)
     (λ none. record {
@@ -63,17 +84,24 @@ with_sound facts f sound free =
       without_nulls = All-push HasNoNull facts f sound.without_nulls free;
     })
 
-fold_sound : (facts more : List Fact) → IsSnapshot facts → All HasNoNull more → IsSnapshot (fold with_fact facts more)
+fold_sound : (facts more : List Fact) → IsSnapshot facts → All HasNoNull more
+    → IsSnapshot (fold with_fact facts more)
 fold_sound facts [] sound free = sound
-fold_sound facts (f ∷ more) sound free = fold_sound (with_fact facts f) more (with_sound facts f sound (All-head HasNoNull f more free)) (All-tail HasNoNull f more free)
+fold_sound facts (f ∷ more) sound free =
+    fold_sound (with_fact facts f) more (with_sound facts f sound (All-head HasNoNull f more free))
+    (All-tail HasNoNull f more free)
 
-unary_free : (c i : Option ℕ) → IfSome (c >>= λ number. option_map (λ n. Ind (record { 0 = n })) i >>= λ x. Some (fact.Concept (record { 0 = number }) x)) HasNoNull
+unary_free : (c i : Option ℕ)
+    → IfSome (c >>= λ number. option_map (λ n. Ind (record { 0 = n })) i >>= λ x.
+    Some (fact.Concept (record { 0 = number }) x)) HasNoNull
 unary_free None i = tt
 unary_free (Some c) None = tt
 unary_free (Some c) (Some i) = tt
 
 binary_free : (r i j : Option ℕ)
-    → IfSome (r >>= λ number. option_map (λ n. Ind (record { 0 = n })) i >>= λ x. option_map (λ n. Ind (record { 0 = n })) j >>= λ y. Some (fact.Role (record { 0 = number }) x y)) HasNoNull
+    → IfSome (r >>= λ number. option_map (λ n. Ind (record { 0 = n })) i >>= λ x.
+    option_map (λ n. Ind (record { 0 = n })) j >>= λ y.
+    Some (fact.Role (record { 0 = number }) x y)) HasNoNull
 binary_free None i j = tt
 binary_free (Some r) None j = tt
 binary_free (Some r) (Some i) None = tt
@@ -81,16 +109,24 @@ binary_free (Some r) (Some i) (Some j) = (tt, tt)
 
 fact_free : (o : Declared) (w : Written) → IfSome (fact_of o w) HasNoNull
 fact_free o (unary p a) = unary_free (number_of Concept o p) (number_of Individual o a)
-fact_free o (binary p a b) = binary_free (number_of Role o p) (number_of Individual o a) (number_of Individual o b)
+fact_free o (binary p a b) =
+    binary_free (number_of Role o p) (number_of Individual o a) (number_of Individual o b)
 
-cons_free : (found : Option Fact) (facts : List Fact) → IfSome found HasNoNull → All HasNoNull facts → All HasNoNull (cons_option found facts)
+cons_free : (found : Option Fact) (facts : List Fact) → IfSome found HasNoNull → All HasNoNull facts
+    → All HasNoNull (cons_option found facts)
 cons_free None facts free later = later
 cons_free (Some f) facts free later = All-cons HasNoNull f facts free later
 
-pub facts_free : (o : Declared) (facts : List Written) → All HasNoNull (filter_map (fact_of o) facts)
+pub facts_free : (o : Declared) (facts : List Written)
+    → All HasNoNull (filter_map (fact_of o) facts)
 facts_free o [] = All-nil HasNoNull
-facts_free o (w ∷ facts) = cons_free (fact_of o w) (filter_map (fact_of o) facts) (fact_free o w) (facts_free o facts)
+facts_free o (w ∷ facts) = cons_free (fact_of o w) (filter_map (fact_of o) facts) (fact_free o w)
+    (facts_free o facts)
 
 pub distinct_sound : (facts : List Fact) → All HasNoNull facts → IsSnapshot (distinct facts)
 unfolding distinct
-distinct_sound facts free = fold_sound [] facts (record { distinct = AllPairs-nil (λ x y. x ≢ y); without_nulls = All-nil HasNoNull }) free
+distinct_sound facts free = fold_sound [] facts (record {
+  distinct =
+      AllPairs-nil (λ x y. x ≢ y);
+  without_nulls = All-nil HasNoNull;
+}) free

@@ -1,5 +1,6 @@
 -- The facts of a value, and of a line in JSON form.
-use Rattle.std.proofs.Common.{◌≡◌, ℕ, ◌<◌, ◌≤◌, ◌+◌, Bool, true, false, cond, leb, List, [], ◌∷◌, length, drop, drop-cons, get_or, add-one, refl, sym, ap, ◌∙◌, arith}
+use Rattle.std.proofs.Common.{◌≡◌, ℕ, ◌<◌, ◌≤◌, ◌+◌, Bool, true, false, cond, leb, List, [], ◌∷◌}
+use Rattle.std.proofs.Common.{length, drop, drop-cons, get_or, add-one, refl, sym, ap, ◌∙◌, arith}
 use Rattle.std.specs.Prelude.{◌&&◌, Option, Some, None}
 use Rattle.std.specs.Option.{option_map, option_map_or}
 use Rattle.std.specs.List.{All, list_all}
@@ -14,12 +15,16 @@ use Rattle.serde_json.specs.View.{view, items_view}
 use Rattle.serde_json.specs.declared.value.Value.{Value}
 use Rattle.text_scan.specs.Bytes.{is_blank}
 use Rattle.dl_syntax.specs.Names.{IsName, is_letter, is_name_byte}
-use Rattle.snapshot_reader.specs.Written.{Written, blank, malformed, writes, is_name, name_in, fact_in, fact_of_items, facts_in, facts_of, json_writes, ◌>>=◌}
+use Rattle.snapshot_reader.specs.Written.{Written, blank, malformed, writes, is_name, name_in}
+use Rattle.snapshot_reader.specs.Written.{fact_in, fact_of_items, facts_in, facts_of, json_writes}
+use Rattle.snapshot_reader.specs.Written.{◌>>=◌}
 
 -- ---- a name
 
-bytes_decide : (bytes : List ℕ) → Decides (list_all is_name_byte bytes) (All (λ b. IsTrue (is_name_byte b)) bytes)
-bytes_decide = Decides-by_and is_name_byte (λ b. IsTrue (is_name_byte b)) (list_all is_name_byte) (λ b. (λ h. h, λ h. h)) refl (λ _ _. refl)
+bytes_decide : (bytes : List ℕ)
+    → Decides (list_all is_name_byte bytes) (All (λ b. IsTrue (is_name_byte b)) bytes)
+bytes_decide = Decides-by_and is_name_byte (λ b.
+    IsTrue (is_name_byte b)) (list_all is_name_byte) (λ b. (λ h. h, λ h. h)) refl (λ _ _. refl)
 
 few_decide : (n : ℕ) → Decides (leb n 64) (n ≤ 64)
 few_decide n = (λ h. grind (arith, h), λ h. grind (arith, h))
@@ -29,16 +34,25 @@ name_decides [] = (λ h. absurd cc, λ h. absurd h)
 name_decides (first ∷ rest) =
     let few = length (first ∷ rest) in
     let parts = Decides-and (is_letter first && list_all is_name_byte rest) (leb few 64)
-    (Decides-and (is_letter first) (list_all is_name_byte rest) (λ h. h, λ h. h) (bytes_decide rest)) (few_decide few) in
+    (Decides-and (is_letter first) (list_all is_name_byte rest) (
+      λ h. h,
+      λ h.
+          h,
+    ) (bytes_decide rest)) (few_decide few) in
     (λ h. let p = parts.0 h in (p.0.0, p.0.1, p.1), λ h. parts.1 ((h.0, h.1), h.2))
 
 pub named : (d : Data) (text : List ℕ) → Some text ≡ as_str d → IsName text → Some text ≡ name_in d
 named d text is name =
-    sym (ap (λ (found : Option (List ℕ)). found >>= λ t. cond (is_name t) (Some t) None) (sym is) ∙ ap (λ (b : Bool). cond b (Some text) None) ((name_decides text).1 name))
+    sym (ap (λ (found : Option (List ℕ)). found >>= λ t.
+    cond (is_name t) (Some t) None) (sym is) ∙ ap (λ (b : Bool).
+    cond b (Some text) None) ((name_decides text).1 name))
 
-pub unnamed : (d : Data) (text : List ℕ) → Some text ≡ as_str d → (IsName text → ⊥) → None ≡ name_in d
+pub unnamed : (d : Data) (text : List ℕ) → Some text ≡ as_str d → (IsName text → ⊥)
+    → None ≡ name_in d
 unnamed d text is no_name =
-    sym (ap (λ (found : Option (List ℕ)). found >>= λ t. cond (is_name t) (Some t) None) (sym is) ∙ go (is_name text) (λ h. no_name ((name_decides text).0 h)))
+    sym (ap (λ (found : Option (List ℕ)). found >>= λ t.
+    cond (is_name t) (Some t) None) (sym is) ∙ go (is_name text) (λ h.
+    no_name ((name_decides text).0 h)))
   where
     go : (b : Bool) → (b ≡ true → ⊥) → cond b (Some text) None ≡ None
     go true h = absurd (h refl)
@@ -58,11 +72,14 @@ too_many (a ∷ b ∷ []) many = absurd (omega arith)
 too_many (a ∷ b ∷ c ∷ []) many = absurd (omega arith)
 too_many (a ∷ b ∷ c ∷ d ∷ vs) many = refl
 
-pub first_fact : (vs : List Value) (i : ℕ) (v : Value) (w : Written) → i < length vs → v ≡ get_or vs i v → Some w ≡ fact_in (view v)
-    → facts_in (items_view (drop i vs)) ≡ option_map (λ facts. w ∷ facts) (facts_in (items_view (drop (i + 1) vs)))
+pub first_fact : (vs : List Value) (i : ℕ) (v : Value) (w : Written) → i < length vs
+    → v ≡ get_or vs i v → Some w ≡ fact_in (view v)
+    → facts_in (items_view (drop i vs))
+    ≡ option_map (λ facts. w ∷ facts) (facts_in (items_view (drop (i + 1) vs)))
 first_fact vs i v w within at is = rw (add-one, drop-cons vs i v, ← at, ← is) refl
 
-pub no_fact : (vs : List Value) (i : ℕ) (v : Value) → i < length vs → v ≡ get_or vs i v → None ≡ fact_in (view v) → facts_in (items_view (drop i vs)) ≡ None
+pub no_fact : (vs : List Value) (i : ℕ) (v : Value) → i < length vs → v ≡ get_or vs i v
+    → None ≡ fact_in (view v) → facts_in (items_view (drop i vs)) ≡ None
 no_fact vs i v within at none = rw (drop-cons vs i v, ← at, ← none) refl
 
 -- ---- a line
@@ -71,14 +88,17 @@ pub blank_line : (line : List ℕ) → list_all is_blank line ≡ true → json_
 unfolding json_writes
 blank_line line blanks = rw blanks refl
 
-pub value_writes : (line : List ℕ) (d : Data) → list_all is_blank line ≡ false → is_utf8 line ≡ true → read line ≡ Some d → json_writes line ≡ option_map_or writes (facts_of d) malformed
+pub value_writes : (line : List ℕ) (d : Data) → list_all is_blank line ≡ false → is_utf8 line ≡ true
+    → read line ≡ Some d → json_writes line ≡ option_map_or writes (facts_of d) malformed
 unfolding json_writes
 value_writes line d some text is = rw (some, text, is) refl
 
-pub no_value : (line : List ℕ) → list_all is_blank line ≡ false → (is_utf8 line ≡ true → read line ≡ None) → json_writes line ≡ malformed
+pub no_value : (line : List ℕ) → list_all is_blank line ≡ false
+    → (is_utf8 line ≡ true → read line ≡ None) → json_writes line ≡ malformed
 unfolding json_writes
 no_value line some unread = rw some (go (is_utf8 line) (read line) unread)
   where
-    go : (text : Bool) (value : Option Data) → (text ≡ true → value ≡ None) → cond text (option_map_or writes (value >>= facts_of) malformed) malformed ≡ malformed
+    go : (text : Bool) (value : Option Data) → (text ≡ true → value ≡ None)
+        → cond text (option_map_or writes (value >>= facts_of) malformed) malformed ≡ malformed
     go false value none = refl
     go true value none = rw (none refl) refl

@@ -1,8 +1,8 @@
 pub mod FactsWritten
 pub mod DistinctFacts
-pub mod HearingLaws
+pub mod GatheringLaws
 pub mod FactsSaid
-pub mod FactsHeard
+pub mod FactsGathered
 pub mod LineWritten
 pub mod JsonFacts
 pub mod RefusedNames

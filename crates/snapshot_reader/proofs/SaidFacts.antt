@@ -1,5 +1,6 @@
 -- The facts that a line says are of declared names, and none stands twice.
-use Rattle.std.proofs.Common.{◌≡◌, ℕ, ◌<◌, List, [], ◌∷◌, ◌++◌, Bool, true, false, cond, Option, None, Some, length, refl, subst}
+use Rattle.std.proofs.Common.{◌≡◌, ℕ, ◌<◌, List, [], ◌∷◌, ◌++◌, Bool, true, false, cond, Option}
+use Rattle.std.proofs.Common.{None, Some, length, refl, subst}
 use Rattle.std.specs.List.{All, fold, filter_map, cons_option, list_any}
 use Rattle.std.specs.Option.{option_map, option_map_or}
 use Rattle.std.specs.Str.{bytes_eq}
@@ -13,9 +14,13 @@ use Rattle.dl_syntax.specs.declared.facts.Fact.{Fact}
 use Rattle.dl_syntax.specs.declared.facts.Fact.TheVariants as fact
 use Rattle.dl_syntax.specs.Snapshots.{IsSnapshot}
 use Rattle.dl_syntax.specs.Ontology.{Declared, names_of, number_of}
-use Rattle.snapshot_reader.specs.Written.{Written, unary, binary, Line, blank, malformed, writes, line_writes}
-use Rattle.snapshot_reader.specs.Said.{◌>>=◌, individual_of, fact_of, same_fact, with_fact, distinct, Cause, refused, says, cause_of, facts_say, line_says, said}
-use Rattle.snapshot_reader.specs.Laws.{IsDeclaredIndividual, IsDeclared, SaidAreDeclared, SaidAreDistinct}
+use Rattle.snapshot_reader.specs.Written.{Written, unary, binary, Line, blank, malformed, writes}
+use Rattle.snapshot_reader.specs.Written.{line_writes}
+use Rattle.snapshot_reader.specs.Said.{◌>>=◌, individual_of, fact_of, same_fact, with_fact}
+use Rattle.snapshot_reader.specs.Said.{distinct, Cause, refused, says, cause_of, facts_say}
+use Rattle.snapshot_reader.specs.Said.{line_says, said}
+use Rattle.snapshot_reader.specs.Laws.{IsDeclaredIndividual, IsDeclared, SaidAreDeclared}
+use Rattle.snapshot_reader.specs.Laws.{SaidAreDistinct}
 use Rattle.snapshot_reader.proofs.FactsSaid.{facts_free, distinct_sound}
 
 -- a name's number is below the count of its kind

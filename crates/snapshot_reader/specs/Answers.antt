@@ -8,7 +8,8 @@ use Rattle.snapshot_reader.specs.declared.Reading.{Reading}
 use Rattle.snapshot_reader.specs.declared.Reading.TheVariants.{Skip, Facts}
 use Rattle.snapshot_reader.specs.declared.SnapFault.{SnapFault}
 use Rattle.snapshot_reader.specs.declared.SnapFault.TheVariants as fault
-use Rattle.snapshot_reader.specs.Said.{Said, nothing, refused, says, is_malformed, unknown, wrong_kind, undeclared, too_many_facts}
+use Rattle.snapshot_reader.specs.Said.{Said, nothing, refused, says, is_malformed, unknown}
+use Rattle.snapshot_reader.specs.Said.{wrong_kind, undeclared, too_many_facts}
 
 -- the answer is what is said, unless memory ran out
 abbrev pub Tells : Result Reading SnapFault → Said → Type 0

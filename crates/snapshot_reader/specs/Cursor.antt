@@ -9,7 +9,8 @@ use Rattle.snapshot_reader.specs.declared.facts.Written as lent
 use Rattle.snapshot_reader.specs.declared.facts.Written.TheVariants as w
 use Rattle.snapshot_reader.specs.declared.facts.NextFact.{NextFact}
 use Rattle.snapshot_reader.specs.declared.facts.NextFact.TheVariants as next
-use Rattle.snapshot_reader.specs.Written.{Written, unary, binary, Symbol, token, symbols, facts_written}
+use Rattle.snapshot_reader.specs.Written.{Written, unary, binary, Symbol, token, symbols}
+use Rattle.snapshot_reader.specs.Written.{facts_written}
 
 -- the names without where they lie in memory
 abbrev pub written_seen : lent.Written → Written
@@ -28,12 +29,19 @@ facts_from line place = facts_written (symbols_from line place)
 
 -- a token of this kind comes first, with its text and the place behind it, or none does
 abbrev pub IsTokenOf : TokenKind → List ℕ → ℕ → Option (Bor (List ℕ) × ℕ) → Type 0
-IsTokenOf kind line from (Some found) = (symbols_from line from ≡ token kind found.0.now ∷ symbols_from line found.1) × (from < found.1) × (found.1 ≤ length line)
-IsTokenOf kind line from None = (text : List ℕ) (rest : List Symbol) → symbols_from line from ≡ token kind text ∷ rest → ⊥
+IsTokenOf kind line from (Some found) =
+    (symbols_from line from ≡ token kind found.0.now ∷ symbols_from line found.1) × (from < found.1)
+    × (found.1 ≤ length line)
+IsTokenOf kind line from None = (text : List ℕ) (rest : List Symbol)
+    → symbols_from line from ≡ token kind text ∷ rest → ⊥
 
--- a fact comes first, the facts go no further, or they are malformed; these symbols stand before the place
+-- a fact comes first, the facts go no further, or they are malformed; these symbols stand before
+-- the place
 abbrev pub IsNextBehind : List Symbol → List ℕ → ℕ → NextFact → Type 0
-IsNextBehind front line from (next.Fact written end) = (facts_written (front ++ symbols_from line from) ≡ option_map (λ facts. written_seen written ∷ facts) (facts_from line end)) × (from < end) × (end ≤ length line)
+IsNextBehind front line from (next.Fact written end) =
+    (facts_written (front ++ symbols_from line from)
+    ≡ option_map (λ facts. written_seen written ∷ facts) (facts_from line end)) × (from < end)
+    × (end ≤ length line)
 IsNextBehind front line from next.End = facts_written (front ++ symbols_from line from) ≡ Some []
 IsNextBehind front line from next.Malformed = facts_written (front ++ symbols_from line from) ≡ None
 
@@ -42,8 +50,11 @@ IsNextFact line from fact = IsNextBehind [] line from fact
 
 -- behind a predicate and `(`
 abbrev pub IsFirstArgument : List ℕ → List ℕ → ℕ → NextFact → Type 0
-IsFirstArgument p line from fact = (open_text : List ℕ) → IsNextBehind (token Name p ∷ token Open open_text ∷ []) line from fact
+IsFirstArgument p line from fact = (open_text : List ℕ)
+    → IsNextBehind (token Name p ∷ token Open open_text ∷ []) line from fact
 
 -- behind a predicate, `(`, an argument and `,`
 abbrev pub IsSecondArgument : List ℕ → List ℕ → List ℕ → ℕ → NextFact → Type 0
-IsSecondArgument p a line from fact = (open_text comma : List ℕ) → IsNextBehind (token Name p ∷ token Open open_text ∷ token Name a ∷ token Comma comma ∷ []) line from fact
+IsSecondArgument p a line from fact = (open_text comma : List ℕ)
+    → IsNextBehind (token Name p ∷ token Open open_text ∷ token Name a ∷ token Comma comma ∷ [])
+    line from fact

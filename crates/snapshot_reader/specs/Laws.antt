@@ -9,7 +9,8 @@ use Rattle.dl_syntax.specs.Names.{IsName}
 use Rattle.dl_syntax.specs.Snapshots.{IsSnapshot}
 use Rattle.dl_syntax.specs.Ontology.{Declared}
 use Rattle.forms.specs.declared.StreamForm.{StreamForm}
-use Rattle.snapshot_reader.specs.Said.{Cause, is_malformed, unknown, wrong_kind, undeclared, too_many_facts, refused, says, said}
+use Rattle.snapshot_reader.specs.Said.{Cause, is_malformed, unknown, wrong_kind, undeclared}
+use Rattle.snapshot_reader.specs.Said.{too_many_facts, refused, says, said}
 
 -- a cause with a name has one that is spelled as a name
 abbrev pub CauseIsSpelled : Cause → Type 0

@@ -2,6 +2,6 @@ pub mod Written
 pub mod Said
 pub mod Answers
 pub mod Cursor
-pub mod Hearing
+pub mod Gathering
 pub mod Tokens
 pub mod Laws

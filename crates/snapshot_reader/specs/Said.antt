@@ -1,5 +1,8 @@
--- What a line says by the names of an ontology. Each cause is looked for over the whole line before the next one.
-use Rattle.std.specs.Prelude.{ℕ, Bool, false, ◌==◌, ◌&&◌, ◌||◌, not, nat_lt, if◌then◌else◌, List, [], ◌∷◌, ◌++◌, length, map, fold, find, position, Option, Some, None, is_some}
+-- What a line says by the names of an ontology. Each cause is looked for over the whole line before
+-- the next one.
+use Rattle.std.specs.Prelude.{ℕ, Bool, false, ◌==◌, ◌&&◌, ◌||◌, not, nat_lt, if◌then◌else◌, List}
+use Rattle.std.specs.Prelude.{[], ◌∷◌, ◌++◌, length, map, fold, find, position, Option, Some, None}
+use Rattle.std.specs.Prelude.{is_some}
 use Rattle.std.specs.Option.{option_map, option_map_or, option_or}
 use Rattle.std.specs.List.{list_any, filter_map, flat_map}
 use Rattle.std.specs.Str.{bytes_eq}
@@ -11,7 +14,8 @@ use Rattle.dl_syntax.specs.declared.facts.Fact.{Fact}
 use Rattle.dl_syntax.specs.declared.facts.Fact.TheVariants as fact
 use Rattle.dl_syntax.specs.Ontology.{Declared, number_of, is_declared}
 use Rattle.forms.specs.declared.StreamForm.{StreamForm}
-use Rattle.snapshot_reader.specs.Written.{Written, unary, binary, predicate, arguments, Line, blank, malformed, writes, line_writes}
+use Rattle.snapshot_reader.specs.Written.{Written, unary, binary, predicate, arguments, Line, blank}
+use Rattle.snapshot_reader.specs.Written.{malformed, writes, line_writes}
 pub use Rattle.snapshot_reader.specs.Written.{◌>>=◌}
 
 abbrev pub is_name_of : Kind → Declared → List ℕ → Bool
@@ -39,7 +43,8 @@ abbrev pub first_misused : Declared → List Written → Option (List ℕ)
 first_misused o facts = option_map predicate (find (λ written. not (is_fitting o written)) facts)
 
 abbrev pub first_undeclared : Declared → List Written → Option (List ℕ)
-first_undeclared o facts = find (λ name. not (is_name_of Individual o name)) (flat_map arguments facts)
+first_undeclared o facts = find (λ name. not (is_name_of Individual o name))
+    (flat_map arguments facts)
 
 -- a line writes at most so many facts, repeats counted
 abbrev pub most_facts : ℕ
@@ -55,7 +60,8 @@ cause_of o facts =
 -- ---- what is said
 
 abbrev pub individual_of : Declared → List ℕ → Option Element
-individual_of o name = option_map (λ number. Ind (record { 0 = number })) (number_of Individual o name)
+individual_of o name = option_map (λ number.
+    Ind (record { 0 = number })) (number_of Individual o name)
 
 -- the fact by its numbers, if its names are declared so
 abbrev pub fact_of : Declared → Written → Option Fact
@@ -94,7 +100,8 @@ pub data Said : Type 0 where
   says : List Fact → Said
 
 unfoldable pub facts_say : Declared → List Written → Said
-facts_say o facts = option_map_or refused (cause_of o facts) (says (distinct (filter_map (fact_of o) facts)))
+facts_say o facts = option_map_or refused (cause_of o facts)
+    (says (distinct (filter_map (fact_of o) facts)))
 
 abbrev pub line_says : Declared → Line → Said
 line_says o blank = nothing

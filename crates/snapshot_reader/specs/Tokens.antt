@@ -1,20 +1,22 @@
 -- A line of the usual form, as the tokens of its text.
-use Rattle.std.specs.Prelude.{◌≡◌, ℕ, Bool, true, List, [], ◌∷◌, codes, Option, Some, None, if◌then◌else◌, option_map, option_and_then}
+use Rattle.std.specs.Prelude.{◌≡◌, ℕ, Bool, true, List, [], ◌∷◌, codes, Option, Some, None}
+use Rattle.std.specs.Prelude.{if◌then◌else◌, option_map, option_and_then}
 use Rattle.json.specs.Token as json
 use Rattle.json.specs.Json.{value, if_last}
 use Rattle.serde_json.specs.Data.{Data, null, boolean, number, string}
 use Rattle.serde_json.specs.Read.{number_of, of_json, max_depth}
 use Rattle.dl_syntax.specs.Ontology.{Declared}
-use Rattle.snapshot_reader.specs.declared.hearing.Heard.{Heard}
+use Rattle.snapshot_reader.specs.declared.gathering.Gathered.{Gathered}
 use Rattle.snapshot_reader.specs.Written.{Written, unary, binary, is_name, facts_of, ◌>>=◌}
-use Rattle.snapshot_reader.specs.Hearing.{Hears}
+use Rattle.snapshot_reader.specs.Gathering.{Gathers}
 
 -- ---- facts
 
 -- a fact behind its first bracket, and then more
 abbrev pub fact_before : Written → List json.Token → List json.Token
 fact_before (unary p a) rest = json.string p ∷ json.string a ∷ json.end_array ∷ rest
-fact_before (binary p a b) rest = json.string p ∷ json.string a ∷ json.string b ∷ json.end_array ∷ rest
+fact_before (binary p a b) rest =
+    json.string p ∷ json.string a ∷ json.string b ∷ json.end_array ∷ rest
 
 -- facts one behind the other, and then more
 abbrev pub facts_before : List Written → List json.Token → List json.Token
@@ -65,6 +67,7 @@ stop_token at_facts = if at_facts then json.key (codes "facts") else json.end_ob
 abbrev pub data_of : List json.Token → Option Data
 data_of ts = option_and_then of_json (option_and_then (λ p. if_last p.0 p.1) (value max_depth ts))
 
--- the tokens are those of a value with facts, and these were heard
-abbrev pub HeardAll : Declared → List json.Token → Heard → Type 0
-HeardAll o ts heard = (facts : List Written) × ((data_of ts >>= facts_of) ≡ Some facts) × Hears o facts heard
+-- the tokens are those of a value with facts, and these were gathered
+abbrev pub GatheredAll : Declared → List json.Token → Gathered → Type 0
+GatheredAll o ts gathered = (facts : List Written) × ((data_of ts >>= facts_of) ≡ Some facts)
+    × Gathers o facts gathered

@@ -1,5 +1,6 @@
 -- The facts that a line writes.
-use Rattle.std.specs.Prelude.{ℕ, Bool, false, ◌&&◌, nat_le, List, [], ◌∷◌, ◌++◌, length, Option, Some, None, codes, map, if◌then◌else◌}
+use Rattle.std.specs.Prelude.{ℕ, Bool, false, ◌&&◌, nat_le, List, [], ◌∷◌, ◌++◌, length, Option}
+use Rattle.std.specs.Prelude.{Some, None, codes, map, if◌then◌else◌}
 use Rattle.std.specs.Option.{option_map, option_map_or}
 use Rattle.std.specs.List.{list_all}
 use Rattle.std.specs.Str.{bytes_eq, is_utf8}
@@ -58,14 +59,18 @@ symbols read = map symbol read.tokens ++ last_symbol read.fault
 -- facts one behind the other, each a name and then one or two names in parentheses
 unfoldable pub facts_written : List Symbol → Option (List Written)
 facts_written [] = Some []
-facts_written (token Name p ∷ token Open _ ∷ token Name a ∷ token Close _ ∷ rest) = option_map (λ facts. unary p a ∷ facts) (facts_written rest)
-facts_written (token Name p ∷ token Open _ ∷ token Name a ∷ token Comma _ ∷ token Name b ∷ token Close _ ∷ rest) = option_map (λ facts. binary p a b ∷ facts) (facts_written rest)
+facts_written (token Name p ∷ token Open _ ∷ token Name a ∷ token Close _ ∷ rest) =
+    option_map (λ facts. unary p a ∷ facts) (facts_written rest)
+facts_written (token Name p ∷ token Open _ ∷ token Name a ∷ token Comma _ ∷ token Name b
+    ∷ token Close _ ∷ rest) = option_map (λ facts. binary p a b ∷ facts) (facts_written rest)
 facts_written _ = None
 
 -- the word `snap` and then facts
 unfoldable pub symbols_write : List Symbol → Line
 symbols_write [] = blank
-symbols_write (token Name word ∷ rest) = if bytes_eq word (codes "snap") then option_map_or writes (facts_written rest) malformed else malformed
+symbols_write (token Name word ∷ rest) =
+    if bytes_eq word (codes "snap") then option_map_or writes (facts_written rest) malformed
+    else malformed
 symbols_write _ = malformed
 
 -- ---- a line in JSON form
@@ -73,7 +78,8 @@ symbols_write _ = malformed
 -- an ASCII letter or an underscore, then letters, digits, underscores and hyphens, 64 bytes at most
 abbrev pub is_name : List ℕ → Bool
 is_name [] = false
-is_name (first ∷ rest) = is_letter first && list_all is_name_byte rest && nat_le (length (first ∷ rest)) 64
+is_name (first ∷ rest) = is_letter first && list_all is_name_byte rest && nat_le
+    (length (first ∷ rest)) 64
 
 -- the name that a text is
 abbrev pub name_in : Data → Option (List ℕ)

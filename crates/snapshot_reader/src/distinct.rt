@@ -1,3 +1,5 @@
+//! Facts without their repeats.
+
 ghost use Rattle.std.specs.Prelude.{◌≡◌, ◌↔◌, IsTrue, IfOk};
 ghost use Rattle.std.specs.List.{Contains};
 ghost use Rattle.snapshot_reader.specs.Said.{distinct};

@@ -1,6 +1,9 @@
+//! The facts that a line writes, by their names.
+
 ghost use Rattle.std.specs.Prelude.{◌≡◌, ◌≤◌, length};
 ghost use Rattle.text_scan.specs.Expecting.{IsMark};
-ghost use Rattle.snapshot_reader.specs.Cursor.{IsTokenOf, IsNextFact, IsFirstArgument, IsSecondArgument};
+ghost use Rattle.snapshot_reader.specs.Cursor.{IsTokenOf, IsNextFact, IsFirstArgument};
+ghost use Rattle.snapshot_reader.specs.Cursor.{IsSecondArgument};
 
 use text_scan::{Next, TokenKind, next_mark, next_name, next_token};
 

@@ -1,16 +1,19 @@
+//! Lines in JSON form.
+
 ghost use Rattle.std.specs.Prelude.{◌≡◌, false, MatchResult};
 ghost use Rattle.std.specs.Option.{option_map, option_map_or};
 ghost use Rattle.std.specs.List.{list_all};
 ghost use Rattle.serde_json.specs.View.{view, items_view};
 ghost use Rattle.text_scan.specs.Bytes.{is_blank};
-ghost use Rattle.snapshot_reader.specs.Written.{name_in, fact_in, facts_in, writes, malformed, json_writes};
+ghost use Rattle.snapshot_reader.specs.Written.{name_in, fact_in, facts_in, writes, malformed};
+ghost use Rattle.snapshot_reader.specs.Written.{json_writes};
 ghost use Rattle.snapshot_reader.specs.Said.{line_says};
 ghost use Rattle.snapshot_reader.specs.Answers.{Tells, HasValue, HasNoValue};
 ghost use Rattle.snapshot_reader.specs.Cursor.{written_seen, name_seen};
 
 use crate::facts::Written;
-use crate::hearing::Heard;
-use crate::plain_lines::hear_plain;
+use crate::gathering::Gathered;
+use crate::plain_lines::gather_plain;
 use crate::{Reading, SnapFault};
 use dl_syntax::{Ontology, is_name};
 use json::{Reader, Scratch};
@@ -47,14 +50,14 @@ fn read_list(alloc: Global, list: &[Value], ontology: &Ontology) -> Result<Readi
     ensures { Tells result (line_says ontology.now
         (option_map_or writes (facts_in (items_view list.now)) malformed)) }
 {
-    let mut heard = Heard::new(alloc);
+    let mut gathered = Gathered::new(alloc);
     for value in list {
         match fact_in(value) {
-            Some(written) => heard.hear(ontology, &written)?,
+            Some(written) => gathered.gather(ontology, &written)?,
             None => return Err(SnapFault::Malformed),
         }
     }
-    heard.reading(alloc)
+    gathered.reading(alloc)
 }
 
 /// Whether the line has nothing to read.
@@ -111,8 +114,8 @@ pub(crate) fn read_json(
     let Ok(mut reader) = Reader::new(text, &mut scratch) else {
         return Err(SnapFault::Memory);
     };
-    match hear_plain(alloc, &mut reader, ontology)? {
-        Some(heard) => heard.reading(alloc),
+    match gather_plain(alloc, &mut reader, ontology)? {
+        Some(gathered) => gathered.reading(alloc),
         None => read_tree(alloc, line, ontology),
     }
 }

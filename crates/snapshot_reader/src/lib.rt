@@ -5,7 +5,7 @@ ghost use Rattle.std.specs.Prelude.{◌≡◌};
 
 mod distinct;
 mod facts;
-mod hearing;
+mod gathering;
 mod json_lines;
 pub mod laws;
 mod lines;

@@ -1,3 +1,5 @@
+//! Lines of a stream.
+
 ghost use Rattle.std.specs.Prelude.{◌≡◌, ◌≤◌, length};
 ghost use Rattle.std.specs.Option.{option_map_or};
 ghost use Rattle.text_scan.specs.declared.TokenKind.TheVariants.{Name};
@@ -8,7 +10,7 @@ ghost use Rattle.snapshot_reader.specs.Answers.{Tells};
 ghost use Rattle.snapshot_reader.specs.Cursor.{symbols_from, facts_from, IsTokenOf};
 
 use crate::facts::{NextFact, name_of, next_fact};
-use crate::hearing::Heard;
+use crate::gathering::Gathered;
 use crate::json_lines::read_json;
 use crate::{Reading, SnapFault};
 use dl_syntax::Ontology;
@@ -27,15 +29,15 @@ fn read_facts(
     ensures { Tells result (line_says ontology.now
         (option_map_or writes (facts_from line.now from) malformed)) }
 {
-    let mut heard = Heard::new(alloc);
+    let mut gathered = Gathered::new(alloc);
     let mut place = from;
     loop {
         match next_fact(line, place) {
             NextFact::Fact(written, end) => {
-                heard.hear(ontology, &written)?;
+                gathered.gather(ontology, &written)?;
                 place = end;
             }
-            NextFact::End => return heard.reading(alloc),
+            NextFact::End => return gathered.reading(alloc),
             NextFact::Malformed => return Err(SnapFault::Malformed),
         }
     }

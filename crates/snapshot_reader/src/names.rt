@@ -1,6 +1,9 @@
+//! The facts that names stand for.
+
 ghost use Rattle.std.specs.Prelude.{◌≡◌, ◌∷◌, [], find, not};
 ghost use Rattle.dl_syntax.specs.declared.names.Kind.TheVariants.{Individual};
-ghost use Rattle.snapshot_reader.specs.Said.{is_name_of, is_fitting, first_unknown, first_misused, first_undeclared, individual_of, fact_of};
+ghost use Rattle.snapshot_reader.specs.Said.{is_name_of, is_fitting, first_unknown, first_misused};
+ghost use Rattle.snapshot_reader.specs.Said.{first_undeclared, individual_of, fact_of};
 ghost use Rattle.snapshot_reader.specs.Cursor.{written_seen, name_seen};
 
 use crate::facts::Written;

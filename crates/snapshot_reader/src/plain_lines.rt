@@ -9,11 +9,13 @@ ghost use Rattle.std.specs.Prelude.{Some};
 ghost use Rattle.snapshot_reader.specs.Written as spec;
 ghost use Rattle.snapshot_reader.specs.Written.{is_name};
 ghost use Rattle.snapshot_reader.specs.Cursor.{written_seen};
-ghost use Rattle.snapshot_reader.specs.Hearing.{Hears};
-ghost use Rattle.snapshot_reader.specs.Tokens.{fact_before, facts_before, IsSpelled, value_in, Passed, IsPassed, members_before, stop_token, HeardAll};
+ghost use Rattle.snapshot_reader.specs.Gathering.{Gathers};
+ghost use Rattle.snapshot_reader.specs.Tokens.{fact_before, facts_before, IsSpelled, value_in};
+ghost use Rattle.snapshot_reader.specs.Tokens.{Passed, IsPassed, members_before, stop_token};
+ghost use Rattle.snapshot_reader.specs.Tokens.{GatheredAll};
 
 use crate::facts::Written;
-use crate::hearing::{FACT_LIMIT, Heard};
+use crate::gathering::{FACT_LIMIT, Gathered};
 use dl_syntax::{Memory, Ontology, is_name};
 use fast_float::Numeral;
 use json::{Reader, Token};
@@ -60,21 +62,21 @@ fn next_facts<'r>(
     alloc: Global,
     reader: &mut Reader<'r>,
     ontology: &Ontology,
-) -> Result<Option<Heard<'r>>, Memory>
-    ensures { IfOk result (λ found. IfSome found (λ heard.
+) -> Result<Option<Gathered<'r>>, Memory>
+    ensures { IfOk result (λ found. IfSome found (λ gathered.
         (facts : List spec.Written) × (reader.old ≡ facts_before facts (end_array ∷ reader.new))
-        × All IsSpelled facts × Hears ontology.now facts heard)) }
+        × All IsSpelled facts × Gathers ontology.now facts gathered)) }
 {
-    let mut heard = Heard::new(alloc);
+    let mut gathered = Gathered::new(alloc);
     for _ in 0..=FACT_LIMIT {
         match reader.next() {
             Some(Token::BeginArray) => {
                 let Some(written) = next_fact(reader) else {
                     return Ok(None);
                 };
-                heard.hear(ontology, &written)?;
+                gathered.gather(ontology, &written)?;
             }
-            Some(Token::EndArray) => return Ok(Some(heard)),
+            Some(Token::EndArray) => return Ok(Some(gathered)),
             _ => return Ok(None),
         }
     }
@@ -136,13 +138,13 @@ fn pass_members(reader: &mut Reader<'_>) -> Option<bool>
 }
 
 /// The facts of a line of the usual form.
-pub(crate) fn hear_plain<'r>(
+pub(crate) fn gather_plain<'r>(
     alloc: Global,
     reader: &mut Reader<'r>,
     ontology: &Ontology,
-) -> Result<Option<Heard<'r>>, Memory>
+) -> Result<Option<Gathered<'r>>, Memory>
     ensures { IfOk result (λ found. IfSome found
-        (λ heard. HeardAll ontology.now reader.old heard)) }
+        (λ gathered. GatheredAll ontology.now reader.old gathered)) }
 {
     let Some(Token::BeginObject) = reader.next() else {
         return Ok(None);
@@ -153,14 +155,14 @@ pub(crate) fn hear_plain<'r>(
     let Some(Token::BeginArray) = reader.next() else {
         return Ok(None);
     };
-    let Some(heard) = next_facts(alloc, reader, ontology)? else {
+    let Some(gathered) = next_facts(alloc, reader, ontology)? else {
         return Ok(None);
     };
     let Some(false) = pass_members(reader) else {
         return Ok(None);
     };
     match reader.next() {
-        None => Ok(Some(heard)),
+        None => Ok(Some(gathered)),
         Some(_) => Ok(None),
     }
 }

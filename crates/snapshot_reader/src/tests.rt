@@ -1,3 +1,5 @@
+//! Tests of the public calls, and the worked examples.
+
 use crate::{Reading, SnapFault, read_snapshot};
 use dl_syntax::{ConceptId, Element, Fact, IndId, Kind, Memory, Ontology, RoleId, is_name};
 use forms::StreamForm;

@@ -17,8 +17,10 @@ GoesOn old n new = (nodes : List Node) → AreOver nodes old → AreOver (nodes 
 
 -- the relations are the answers of the leaves of the nodes at a position, in order
 abbrev pub AreAnswers : Told → List Node → List Relation → Type 0
-AreAnswers told nodes relations = AllZip (AreCertain [] (snapshot_of told)) (leaves_of nodes) relations
+AreAnswers told nodes relations =
+    AllZip (AreCertain [] (snapshot_of told)) (leaves_of nodes) relations
 
 -- the answers of the leaves of any nodes become the answers of those and one more node's
 abbrev pub AnswersOn : Told → List Relation → Node → List Relation → Type 0
-AnswersOn told old n new = (nodes : List Node) → AreAnswers told nodes old → AreAnswers told (nodes ++ n ∷ []) new
+AnswersOn told old n new = (nodes : List Node) → AreAnswers told nodes old
+    → AreAnswers told (nodes ++ n ∷ []) new

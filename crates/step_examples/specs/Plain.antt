@@ -1,5 +1,7 @@
--- Histories of one individual that is in A, in B, in both or in neither at each position, and where a query holds in them.
-use Rattle.std.specs.Prelude.{◌≡◌, ℕ, ◌-◌, ◌<◌, ◌⊎◌, ◌↔◌, Bool, false, true, if◌then◌else◌, IsTrue, nat_eq, List, [], ◌∷◌, ◌++◌, length, map, slice_index_or, SomeIndex}
+-- Histories of one individual that is in A, in B, in both or in neither at each position, and where
+-- a query holds in them.
+use Rattle.std.specs.Prelude.{◌≡◌, ℕ, ◌-◌, ◌<◌, ◌⊎◌, ◌↔◌, Bool, false, true, if◌then◌else◌, IsTrue}
+use Rattle.std.specs.Prelude.{nat_eq, List, [], ◌∷◌, ◌++◌, length, map, slice_index_or, SomeIndex}
 use Rattle.std.specs.List.{All}
 use Rattle.dl_syntax.specs.declared.names.IndId.{IndId}
 use Rattle.dl_syntax.specs.declared.facts.Element.TheVariants.{Ind}
@@ -27,7 +29,8 @@ the_row = record { 0 = 0 } ∷ []
 
 -- that the individual is in the concept with the number, if it is
 abbrev pub member_if : Bool → ℕ → List Fact
-member_if is concept = (if is then fact.Concept (record { 0 = concept }) (Ind (record { 0 = 0 })) ∷ [] else [])
+member_if is concept = (if is then fact.Concept (record { 0 = concept }) (Ind (record { 0 = 0 }))
+    ∷ [] else [])
 
 -- the snapshot in which the individual is in A and in B as told
 abbrev pub snapshot_of : Told → List Fact
@@ -58,7 +61,8 @@ Answers told q = Certain [] q (snapshot_of told) the_row
 abbrev pub HoldsIn : List Told → Formula → ℕ → Type 0
 HoldsIn told f i = Holds [] (history_of told) the_row f i
 
--- the query has one answer variable, and each of its leaves asks for the members of A, or for those of B
+-- the query has one answer variable, and each of its leaves asks for the members of A, or for those
+-- of B
 pub record LeavesAskForMembers (query : Tcq) : Type 0 where
   pub one : query.vars ≡ 1
   pub leaves : All LeafAsksForMembers query.nodes
@@ -69,7 +73,8 @@ rows_if there = (if there then the_row ∷ [] else [])
 
 -- there is a last position, and the root of the nodes holds of the individual there
 abbrev pub HoldsLast : List Node → List Told → Type 0
-HoldsLast nodes told = (0 < length told) × HoldsIn told (formula_at nodes (length nodes - 1)) (length told - 1)
+HoldsLast nodes told = (0 < length told)
+    × HoldsIn told (formula_at nodes (length nodes - 1)) (length told - 1)
 
 -- the row is true at the place
 abbrev pub IsSet : List Bool → ℕ → Type 0
@@ -81,7 +86,8 @@ Tells told f row = (i : ℕ) → i < length told → IsSet row i ↔ HoldsIn tol
 
 -- each row tells where the formula of its place holds
 abbrev pub AreRows : List Told → (ℕ → Formula) → List (List Bool) → Type 0
-AreRows told formula rows = (place : ℕ) → place < length rows → Tells told (formula place) (slice_index_or rows place [])
+AreRows told formula rows = (place : ℕ) → place < length rows
+    → Tells told (formula place) (slice_index_or rows place [])
 
 -- the second is true at some place, and the first at each before it
 abbrev pub IsUntil : List Bool → List Bool → Type 0

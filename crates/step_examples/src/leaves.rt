@@ -27,7 +27,8 @@ fn column(alloc: Global, there: bool) -> Result<Tuples, Memory>
 // The relations and that of a further node, if it is a leaf of one answer variable.
 fn with_leaf(alloc: Global, leaves: Vec<Tuples>, node: &Node, fact: Fact) -> Option<Vec<Tuples>>
     ensures over { IfSome result (λ new. GoesOn leaves.items node.now new.items) }
-    ensures answers { IfSome result (λ new. LeafAsksForMembers node.now → AnswersOn fact leaves.items node.now new.items) }
+    ensures answers { IfSome result (λ new. LeafAsksForMembers node.now
+        → AnswersOn fact leaves.items node.now new.items) }
 {
     let mut leaves = leaves;
     if let Node::Leaf(q) = node {
@@ -44,7 +45,8 @@ fn with_leaf(alloc: Global, leaves: Vec<Tuples>, node: &Node, fact: Fact) -> Opt
 /// The relation of each leaf at the position, if each has one answer variable.
 pub fn leaves_at(alloc: Global, nodes: &[Node], fact: Fact) -> Option<Vec<Tuples>>
     ensures over { IfSome result (λ leaves. AreOver nodes.now leaves.items) }
-    ensures answers { IfSome result (λ leaves. All LeafAsksForMembers nodes.now → AreAnswers fact nodes.now leaves.items) }
+    ensures answers { IfSome result (λ leaves. All LeafAsksForMembers nodes.now
+        → AreAnswers fact nodes.now leaves.items) }
 {
     let mut leaves = Vec::new(alloc);
     for node in nodes {

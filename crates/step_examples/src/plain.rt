@@ -1,9 +1,13 @@
 //! Where a query holds, position by position.
 
-ghost use Rattle.std.specs.Prelude.{◌≡◌, ◌<◌, ◌≤◌, ◌↔◌, ℕ, EachIndex, IsTrue, SomeIndex, length, take};
+ghost use Rattle.std.specs.Prelude.{◌≡◌, ◌<◌, ◌≤◌, ◌↔◌, ℕ, EachIndex, IsTrue, SomeIndex, length};
+ghost use Rattle.std.specs.Prelude.{take};
 ghost use Rattle.std.specs.List.{All};
-ghost use Rattle.tcq_syntax.specs.Formula.{Formula, formula_of, formula_at, HasChildrenBelow, IsTable};
-ghost use Rattle.step_examples.specs.Plain.{Answers, AreRows, is_of_first, LeafAsksForMembers, HoldsIn, HoldsLast, AsksForMembers, IsSet, IsSince, IsUntil, Tells};
+ghost use Rattle.tcq_syntax.specs.Formula.{Formula, formula_of, formula_at, HasChildrenBelow};
+ghost use Rattle.tcq_syntax.specs.Formula.{IsTable};
+ghost use Rattle.step_examples.specs.Plain.{Answers, AreRows, is_of_first, LeafAsksForMembers};
+ghost use Rattle.step_examples.specs.Plain.{HoldsIn, HoldsLast, AsksForMembers, IsSet, IsSince};
+ghost use Rattle.step_examples.specs.Plain.{IsUntil, Tells};
 
 use dl_syntax::{Atom, Cq};
 use tcq_syntax::Node;
@@ -74,7 +78,9 @@ fn holds_at(node: &Node, rows: &[[bool; 4]], facts: &[Fact], i: usize) -> bool
     requires children { HasChildrenBelow (length rows.now) node.now }
     requires few { length facts.now ≤ 4 }
     requires within { i < length facts.now }
-    ensures { (child : ℕ → Formula) (number : ℕ) → AreRows facts.now child rows.now → LeafAsksForMembers node.now → IsTrue result ↔ HoldsIn facts.now (formula_of child number node.now) i }
+    ensures { (child : ℕ → Formula) (number : ℕ) → AreRows facts.now child rows.now
+        → LeafAsksForMembers node.now
+        → IsTrue result ↔ HoldsIn facts.now (formula_of child number node.now) i }
 {
     let n = facts.len();
     match node {
@@ -100,7 +106,8 @@ fn holds_at(node: &Node, rows: &[[bool; 4]], facts: &[Fact], i: usize) -> bool
 fn row_of(node: &Node, rows: &[[bool; 4]], facts: &[Fact]) -> [bool; 4]
     requires children { HasChildrenBelow (length rows.now) node.now }
     requires few { length facts.now ≤ 4 }
-    ensures { (child : ℕ → Formula) (number : ℕ) → AreRows facts.now child rows.now → LeafAsksForMembers node.now → Tells facts.now (formula_of child number node.now) result }
+    ensures { (child : ℕ → Formula) (number : ℕ) → AreRows facts.now child rows.now
+        → LeafAsksForMembers node.now → Tells facts.now (formula_of child number node.now) result }
 {
     let mut row = [false; 4];
     for i in 0..facts.len() {
@@ -114,7 +121,8 @@ fn rows_of(nodes: &[Node], facts: &[Fact]) -> [[bool; 4]; 64]
     requires table { IsTable nodes.now }
     requires small { length nodes.now ≤ 64 }
     requires few { length facts.now ≤ 4 }
-    ensures { All LeafAsksForMembers nodes.now → AreRows facts.now (formula_at nodes.now) (take (length nodes.now) result) }
+    ensures { All LeafAsksForMembers nodes.now
+        → AreRows facts.now (formula_at nodes.now) (take (length nodes.now) result) }
 {
     let mut rows = [[false; 4]; 64];
     for (place, node) in nodes.iter().enumerate() {

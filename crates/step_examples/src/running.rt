@@ -12,7 +12,8 @@ use progression::{Kept, advance, start};
 use std::alloc::Global;
 use tcq_syntax::Query;
 
-// What is kept after the last position, and whether the answers there are those of the plain definition.
+// What is kept after the last position, and whether the answers there are those of the plain
+// definition.
 fn one_step(
     alloc: Global,
     query: &Query,
@@ -25,7 +26,10 @@ fn one_step(
     requires some { 0 < length facts.now }
     requires few { length facts.now ≤ 4 }
     ensures fits { IfSome result (λ r. Fits query.now 1 r.0) }
-    ensures agrees { IfSome result (λ r. (before : List Told) (told : Told) → facts.now ≡ before ++ told ∷ [] → LeavesAskForMembers query.now → StandsFor [] 1 (history_of before) query.now kept.now → StandsFor [] 1 (history_of facts.now) query.now r.0 × IsTrue r.1) }
+    ensures agrees { IfSome result (λ r. (before : List Told) (told : Told)
+        → facts.now ≡ before ++ told ∷ [] → LeavesAskForMembers query.now
+        → StandsFor [] 1 (history_of before) query.now kept.now
+        → StandsFor [] 1 (history_of facts.now) query.now r.0 × IsTrue r.1) }
 {
     let leaves = leaves_at(alloc, query.nodes(), facts[facts.len() - 1])?;
     let (kept, rows) = advance(alloc, query, 1, kept, leaves.as_slice(), made, store).ok()?;
@@ -34,8 +38,8 @@ fn one_step(
 }
 
 /// Whether the step answers as the plain definition at each position of a history of at most four,
-/// if there is memory and each leaf has the one answer variable. It does where the leaves ask for the
-/// members of A or of B.
+/// if there is memory and each leaf has the one answer variable. It does where the leaves ask for
+/// the members of A or of B.
 pub fn agrees(alloc: Global, query: &Query, facts: &[Fact]) -> Option<bool>
     requires { length facts.now ≤ 4 }
     ensures { IfSome result (λ same. LeavesAskForMembers query.now → IsTrue same) }

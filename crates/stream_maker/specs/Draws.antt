@@ -1,4 +1,5 @@
--- A linear congruential generator of numbers (D. H. Lehmer, 1951), and sequences that go by its states.
+-- A linear congruential generator of numbers (D. H. Lehmer, 1951), and sequences that go by its
+-- states.
 use Rattle.std.specs.Prelude.{ℕ, zero, suc, ◌+◌, ◌*◌, ◌/◌, ◌%◌, List, [], ◌++◌}
 
 abbrev pub Text : Type 0

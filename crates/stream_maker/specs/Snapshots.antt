@@ -4,7 +4,9 @@ use Rattle.stream_maker.specs.Draws.{Text, next, given, after, pieces}
 
 -- The three queries.
 unfoldable pub queries_text : Text
-queries_text = codes "query q0 (?x ?y) = [r0(?x,?y)] & once [C9(?x)] ;\nquery q1 (?x ?y) = prev ([C1(?x)] until [C21(?y)]) ;\nquery q2 (?x ?y) = once ([C3(?x)] & next [C23(?y)]) ;\n"
+queries_text =
+    codes
+    "query q0 (?x ?y) = [r0(?x,?y)] & once [C9(?x)] ;\nquery q1 (?x ?y) = prev ([C1(?x)] until [C21(?y)]) ;\nquery q2 (?x ?y) = once ([C3(?x)] & next [C23(?y)]) ;\n"
 
 -- a concept below 20 is of the first 30 individuals, another of the next 30
 abbrev pub holder : ℕ → ℕ → ℕ
@@ -12,22 +14,26 @@ holder concept number = if nat_lt concept 20 then number else 30 + number
 
 -- the fact of this concept and this individual, after a space
 abbrev pub concept_text : ℕ → ℕ → Text
-concept_text concept individual = codes " C" ++ decimal concept ++ codes "(i" ++ decimal individual ++ codes ")"
+concept_text concept individual =
+    codes " C" ++ decimal concept ++ codes "(i" ++ decimal individual ++ codes ")"
 
 -- the fact of this role and these individuals, after a space
 abbrev pub role_text : ℕ → ℕ → ℕ → Text
-role_text role first second = codes " r" ++ decimal role ++ codes "(i" ++ decimal first ++ codes ",i" ++ decimal second ++ codes ")"
+role_text role first second = codes " r" ++ decimal role ++ codes "(i" ++ decimal first
+    ++ codes ",i" ++ decimal second ++ codes ")"
 
 -- an even fact, from the state before its two draws
 abbrev pub even_text : ℕ → Text
-even_text state = concept_text (given 40 (next state)) (holder (given 40 (next state)) (given 30 (next (next state))))
+even_text state = concept_text (given 40 (next state))
+    (holder (given 40 (next state)) (given 30 (next (next state))))
 
 abbrev pub even_end : ℕ → ℕ
 even_end state = next (next state)
 
 -- an odd fact, from the state before its three draws
 abbrev pub odd_text : ℕ → Text
-odd_text state = role_text (given 15 (next state)) (given 30 (next (next state))) (30 + given 30 (next (next (next state))))
+odd_text state = role_text (given 15 (next state)) (given 30 (next (next state)))
+    (30 + given 30 (next (next (next state))))
 
 abbrev pub odd_end : ℕ → ℕ
 odd_end state = next (next (next state))

@@ -1,9 +1,10 @@
-// The generator of numbers.
+//! The generator of numbers.
+
 ghost use Rattle.std.specs.Prelude.{◌≡◌, ◌<◌};
 ghost use Rattle.stream_maker.specs.Draws.{next, given};
 
-/// A linear congruential generator (D. H. Lehmer, 1951): the state x goes to
-/// (x * 1103515245 + 12345) mod 2147483648, and a draw below n gives (x / 65536) mod n of the new state.
+/// A linear congruential generator (D. H. Lehmer, 1951): the state x goes to (x * 1103515245 +
+/// 12345) mod 2147483648, and a draw below n gives (x / 65536) mod n of the new state.
 #[derive(Clone, Copy, PartialEq, Eq, Debug)]
 pub struct Generator {
     /// The state after the last draw; before the first one, the seed.

@@ -1,14 +1,17 @@
-// The lines of a stream.
+//! The lines of a stream.
+
 ghost use Rattle.std.specs.Prelude.{◌≡◌, ◌++◌, ◌<◌, OnOk, OnErr, take, vec_len};
 ghost use Rattle.stream_maker.specs.Draws.{after};
-ghost use Rattle.stream_maker.specs.Snapshots.{holder, concept_text, role_text, even_text, even_end, odd_text, odd_end, pair_text, pair_end, pairs_text, snapshot_text, snapshot_end};
+ghost use Rattle.stream_maker.specs.Snapshots.{holder, concept_text, role_text, even_text};
+ghost use Rattle.stream_maker.specs.Snapshots.{even_end, odd_text, odd_end, pair_text, pair_end};
+ghost use Rattle.stream_maker.specs.Snapshots.{pairs_text, snapshot_text, snapshot_end};
 
 use crate::Memory;
 use crate::draws::Generator;
 use crate::numbers::append_numbered;
 
-/// The individual of a fact of this concept: one of the first 30 for a concept below 20, else one of the
-/// next 30.
+/// The individual of a fact of this concept: one of the first 30 for a concept below 20, else one
+/// of the next 30.
 fn holder_of(concept: u32, number: u32) -> u32
     requires { number < 30 }
     ensures { result ≡ holder concept number }
@@ -94,8 +97,8 @@ impl Generator {
         out.extend_from_slice(b"\n")
     }
 
-    /// Appends the line of the next snapshot, `snap` and 50 facts. The buffer and the generator are as
-    /// before where memory runs out.
+    /// Appends the line of the next snapshot, `snap` and 50 facts. The buffer and the generator are
+    /// as before where memory runs out.
     pub fn append_snapshot(&mut self, out: &mut Vec<u8>) -> Result<(), Memory>
         ensures ok { OnOk result (out.new.items ≡ out.old.items ++ snapshot_text self.old.state) }
         ensures advanced { OnOk result (self.new.state ≡ snapshot_end self.old.state) }

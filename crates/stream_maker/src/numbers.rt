@@ -1,3 +1,5 @@
+//! Words with a number behind them.
+
 ghost use Rattle.std.specs.Prelude.{◌≡◌, ◌++◌, decimal, OnOk, take, vec_len};
 
 use crate::Memory;

@@ -1,6 +1,9 @@
-// The lines of the ontology.
+//! The lines of the ontology.
+
 ghost use Rattle.std.specs.Prelude.{◌≡◌, ◌++◌, ◌+◌, ◌<◌, OnOk, take, vec_len};
-ghost use Rattle.stream_maker.specs.Ontology.{one_text, two_text, shape_text, shape_lines, names_text, trees_text, links_text, roles_text, clashes_text, ontology_text};
+ghost use Rattle.stream_maker.specs.Ontology.{one_text, two_text, shape_text, shape_lines};
+ghost use Rattle.stream_maker.specs.Ontology.{names_text, trees_text, links_text, roles_text};
+ghost use Rattle.stream_maker.specs.Ontology.{clashes_text, ontology_text};
 
 use crate::Memory;
 use crate::numbers::append_numbered;
@@ -39,7 +42,8 @@ fn append_two(
     between: &[u8],
     second: u32,
 ) -> Result<(), Memory>
-    ensures ok { OnOk result (out.new.items ≡ out.old.items ++ two_text before.now first between.now second) }
+    ensures ok { OnOk result (out.new.items
+        ≡ out.old.items ++ two_text before.now first between.now second) }
     ensures kept { take (vec_len out.old) out.new.items ≡ out.old.items }
 {
     append_numbered(out, before, first)?;

@@ -1,4 +1,5 @@
-// The three texts of a made input.
+//! The three texts of a made input.
+
 ghost use Rattle.std.specs.Prelude.{◌≡◌, ◌++◌, [], IfOk};
 ghost use Rattle.stream_maker.specs.Ontology.{ontology_text};
 ghost use Rattle.stream_maker.specs.Snapshots.{queries_text, stream_text};
@@ -16,8 +17,8 @@ pub struct Sources {
     pub stream: Vec<u8>,
 }
 
-/// The ontology, which is the same for each seed: 40 concepts, 15 roles, 60 individuals, 120 inclusions and
-/// 30 clashes.
+/// The ontology, which is the same for each seed: 40 concepts, 15 roles, 60 individuals, 120
+/// inclusions and 30 clashes.
 pub fn make_ontology(alloc: Global) -> Result<Vec<u8>, Memory>
     ensures { IfOk result (λ made. made.items ≡ ontology_text) }
 {
@@ -48,8 +49,8 @@ pub fn make_stream(alloc: Global, seed: u32, count: u32) -> Result<Vec<u8>, Memo
     Ok(stream)
 }
 
-/// A well-formed input, the same for the same seed and count: its stream has `count` snapshots of 50 facts
-/// each, a fact of a concept and one of a role in turn.
+/// A well-formed input, the same for the same seed and count: its stream has `count` snapshots of
+/// 50 facts each, a fact of a concept and one of a role in turn.
 pub fn make(alloc: Global, seed: u32, count: u32) -> Result<Sources, Memory>
     ensures ontology { IfOk result (λ made. made.ontology.items ≡ ontology_text) }
     ensures queries { IfOk result (λ made. made.queries.items ≡ queries_text) }

@@ -42,10 +42,15 @@ sink_told sink out = record { got = sink.got out; faults = sink.faults out }
 -- what these two objects tell
 abbrev pub ports_of : {S K : Type 0} → SourceGhosts S → SinkGhosts K → S → K → Ports
 ports_of source sink input out =
-    record { input = record { left = source.left input; faults = source.faults input }; out = sink_told sink out }
+    record {
+      input = record { left = source.left input; faults = source.faults input };
+      out =
+          sink_told sink out;
+    }
 
 -- what these three objects tell
-abbrev pub outside_of : {F S K : Type 0} → FilesGhosts F → SourceGhosts S → SinkGhosts K → F → S → K → Outside
+abbrev pub outside_of : {F S K : Type 0} → FilesGhosts F → SourceGhosts S → SinkGhosts K → F → S → K
+    → Outside
 outside_of access source sink files input out =
     record { files = files_told access files; ports = ports_of source sink input out }
 

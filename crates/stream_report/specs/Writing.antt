@@ -8,14 +8,17 @@ abbrev pub IsProperFront : List ℕ → List ℕ → Type 0
 IsProperFront xs ys = IsFront xs ys × (length xs < length ys)
 
 -- the sink gained these bytes on Ok, and otherwise a proper beginning of them
-pub record Writes {T E : Type 0} (before now : Option (List ℕ)) (bytes : List ℕ) (result : Result T E) : Type 0 where
+pub record Writes {T E : Type 0} (before now : Option (List ℕ)) (bytes : List ℕ)
+    (result : Result T E) : Type 0 where
   pub wrote : List ℕ
   pub gains : Gains before now wrote
   pub whole : OnOk result (wrote ≡ bytes)
   pub failed : OnErr result (IsProperFront wrote bytes)
 
--- bytes moved from a buffer to the sink, all of them if it was to be emptied; a fault left some behind
-pub record Flushes {T E : Type 0} (is_emptied : Bool) (before now : Option (List ℕ)) (old new : List ℕ) (result : Result T E) : Type 0 where
+-- bytes moved from a buffer to the sink, all of them if it was to be emptied; a fault left some
+-- behind
+pub record Flushes {T E : Type 0} (is_emptied : Bool) (before now : Option (List ℕ))
+    (old new : List ℕ) (result : Result T E) : Type 0 where
   pub wrote : List ℕ
   pub gains : Gains before now wrote
   pub moved : OnOk result (old ≡ wrote ++ new)

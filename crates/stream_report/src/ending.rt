@@ -1,4 +1,4 @@
-// How a command ends.
+//! How a command ends.
 
 /// How a command ended, where `Refusal` says why its sources can't be used.
 #[derive(Clone, Copy, Debug, PartialEq, Eq)]

@@ -1,4 +1,5 @@
-// The loop of every command that reads a stream.
+//! The loop of every command that reads a stream.
+
 ghost use Rattle.std.specs.Prelude.{◌≡◌, ◌≤◌, ◌<◌, ◌+◌, ◌^◌, ◌++◌, ℕ, Ok, OnOk, length};
 ghost use Rattle.edge_io.specs.Causes.{Rose};
 ghost use Rattle.edge_io.specs.Reading.{given_by, outcome_of_line};

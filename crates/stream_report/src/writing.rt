@@ -1,4 +1,5 @@
-// Writing bytes to a sink.
+//! Writing bytes to a sink.
+
 ghost use Rattle.std.specs.Prelude.{◌≡◌};
 ghost use Rattle.edge_io.specs.Causes.{HasCause, Rose};
 ghost use Rattle.stream_report.specs.Ends.{Written};

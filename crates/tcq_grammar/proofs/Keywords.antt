@@ -15,8 +15,8 @@ keyword_of-word k.True = refl
 keyword_of-word k.False = refl
 keyword_of-word (k.Unary unary.Next) = refl
 keyword_of-word (k.Unary unary.WeakNext) = refl
-keyword_of-word (k.Unary unary.Previous) = refl
-keyword_of-word (k.Unary unary.WeakPrevious) = refl
+keyword_of-word (k.Unary unary.Prev) = refl
+keyword_of-word (k.Unary unary.WeakPrev) = refl
 keyword_of-word (k.Unary unary.Eventually) = refl
 keyword_of-word (k.Unary unary.Always) = refl
 keyword_of-word (k.Unary unary.Once) = refl
@@ -42,7 +42,8 @@ writes text (k.Unary op) e = e
 writes text (k.Timed op) e = e
 writes text k.Plain e = tt
 
-chosen : (text : List ℕ) (b : Bool) (keyword rest : Keyword) → (b ≡ true → Writes text keyword) → Writes text rest → Writes text (cond b keyword rest)
+chosen : (text : List ℕ) (b : Bool) (keyword rest : Keyword) → (b ≡ true → Writes text keyword)
+    → Writes text rest → Writes text (cond b keyword rest)
 chosen text true keyword rest h k = h refl
 chosen text false keyword rest h k = k
 

@@ -1,5 +1,6 @@
 -- The machine without its formulas: what it has to keep to know the next state.
-use Rattle.std.specs.Prelude.{◌≡◌, ℕ, ◌+◌, nat_lt, Bool, true, false, if◌then◌else◌, List, [], ◌∷◌, Option, Some, None, reverse}
+use Rattle.std.specs.Prelude.{◌≡◌, ℕ, ◌+◌, nat_lt, Bool, true, false, if◌then◌else◌, List, [], ◌∷◌}
+use Rattle.std.specs.Prelude.{Option, Some, None, reverse}
 use Rattle.tcq_grammar.specs.Symbols.{Symbol}
 use Rattle.tcq_grammar.specs.Symbols as s
 use Rattle.tcq_grammar.specs.declared.words.Keyword.{Keyword}
@@ -18,7 +19,13 @@ pub record Control : Type 0 where
   pub outer : List Scope
 
 abbrev pub view : Checker → Control
-view c = record { mode = c.mode; nesting = c.nesting; scope = c.scope; outer = reverse c.outer.items }
+view c = record {
+  mode = c.mode;
+  nesting = c.nesting;
+  scope = c.scope;
+  outer =
+      reverse c.outer.items;
+}
 
 abbrev pub whole : Scope
 whole = record { timed = false; base = 0 }
@@ -36,7 +43,14 @@ completed c = record { mode = m.Have; nesting = c.scope.base; scope = c.scope; o
 abbrev pub begin_word_control : Control → Keyword → Option Control
 begin_word_control c k.True = Some (completed c)
 begin_word_control c k.False = Some (completed c)
-begin_word_control c (k.Unary op) = if nat_lt c.nesting 256 then Some (record { mode = m.Want; nesting = c.nesting + 1; scope = c.scope; outer = c.outer }) else None
+begin_word_control c (k.Unary op) =
+    if nat_lt c.nesting 256 then Some (record {
+      mode = m.Want;
+      nesting = c.nesting + 1;
+      scope =
+          c.scope;
+      outer = c.outer;
+    }) else None
 begin_word_control c _ = None
 
 abbrev pub begin_control : Control → Symbol → Option Control
@@ -44,17 +58,35 @@ begin_control c (s.Name text) = begin_word_control c (keyword_of text)
 begin_control c s.Square = Some (in_mode c m.WantAtom)
 begin_control c s.Open =
     if nat_lt c.nesting 256
-    then Some (record { mode = m.Want; nesting = c.nesting + 1; scope = record { timed = false; base = c.nesting + 1 }; outer = c.scope ∷ c.outer })
+    then Some (record {
+      mode = m.Want;
+      nesting = c.nesting + 1;
+      scope =
+          record { timed = false; base = c.nesting + 1 };
+      outer = c.scope ∷ c.outer;
+    })
     else None
 begin_control c _ = None
 
 -- a left side waits in the scope
 abbrev pub left_waits : Control → Bool → Control
-left_waits c timed = record { mode = m.Want; nesting = c.nesting; scope = record { timed = timed; base = c.scope.base }; outer = c.outer }
+left_waits c timed = record {
+  mode = m.Want;
+  nesting = c.nesting;
+  scope =
+      record { timed = timed; base = c.scope.base };
+  outer = c.outer;
+}
 
 abbrev pub close_control : List Scope → Option Control
 close_control [] = None
-close_control (scope ∷ outer) = Some (record { mode = m.Have; nesting = scope.base; scope = scope; outer = outer })
+close_control (scope ∷ outer) = Some (record {
+  mode = m.Have;
+  nesting = scope.base;
+  scope =
+      scope;
+  outer = outer;
+})
 
 abbrev pub finish_control : List Scope → Option Control
 finish_control [] = Some (idle m.Between)

@@ -5,8 +5,12 @@ use Rattle.tcq_grammar.specs.declared.words.Keyword.TheVariants as k
 use Rattle.tcq_grammar.specs.Words.{word}
 use Rattle.tcq_grammar.specs.Symbols.{Symbol}
 use Rattle.tcq_grammar.specs.Symbols as s
-use Rattle.tcq_grammar.specs.Grammar.{Tree, term_spelled, atom_spelled, atoms_spelled, spelled, variables_spelled, file_spelled, opening}
-use Rattle.tcq_grammar.specs.Machine.{Level, Stack, Bottom, Operand, Inside, Head, Brackets, WantAtom, AfterPredicate, WantFirst, AfterFirst, WantSecond, AfterSecond, AfterAtom, State, Between, AfterQuery, AfterName, InVariables, AfterVariables, Want, Have, InLeaf, reopen}
+use Rattle.tcq_grammar.specs.Grammar.{Tree, term_spelled, atom_spelled, atoms_spelled, spelled}
+use Rattle.tcq_grammar.specs.Grammar.{variables_spelled, file_spelled, opening}
+use Rattle.tcq_grammar.specs.Machine.{Level, Stack, Bottom, Operand, Inside, Head, Brackets}
+use Rattle.tcq_grammar.specs.Machine.{WantAtom, AfterPredicate, WantFirst, AfterFirst, WantSecond}
+use Rattle.tcq_grammar.specs.Machine.{AfterSecond, AfterAtom, State, Between, AfterQuery, AfterName}
+use Rattle.tcq_grammar.specs.Machine.{InVariables, AfterVariables, Want, Have, InLeaf, reopen}
 
 -- a left side that waits, with its operator
 abbrev pub waiting : Option Tree → Symbol → List Symbol

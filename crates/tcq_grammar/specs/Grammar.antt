@@ -34,7 +34,8 @@ term_spelled (Ind text) = s.Name text
 
 abbrev pub atom_spelled : Atom → List Symbol
 atom_spelled (One predicate term) = s.Name predicate ∷ s.Open ∷ term_spelled term ∷ s.Close ∷ []
-atom_spelled (Two predicate first second) = s.Name predicate ∷ s.Open ∷ term_spelled first ∷ s.Comma ∷ term_spelled second ∷ s.Close ∷ []
+atom_spelled (Two predicate first second) =
+    s.Name predicate ∷ s.Open ∷ term_spelled first ∷ s.Comma ∷ term_spelled second ∷ s.Close ∷ []
 
 -- atoms, each with the comma behind it
 abbrev pub atoms_spelled : List Atom → List Symbol
@@ -44,7 +45,8 @@ atoms_spelled (atom ∷ rest) = atom_spelled atom ++ s.Comma ∷ atoms_spelled r
 abbrev pub spelled : Tree → List Symbol
 spelled Truth = s.Name (word k.True) ∷ []
 spelled Falsity = s.Name (word k.False) ∷ []
-spelled (Leaf front last) = s.Square ∷ (atoms_spelled front ++ (atom_spelled last ++ s.Unsquare ∷ []))
+spelled (Leaf front last) =
+    s.Square ∷ (atoms_spelled front ++ (atom_spelled last ++ s.Unsquare ∷ []))
 spelled (Apply op body) = s.Name (word (k.Unary op)) ∷ spelled body
 spelled (Group body) = s.Open ∷ (spelled body ++ s.Close ∷ [])
 spelled (Timed op left right) = spelled left ++ s.Name (word (k.Timed op)) ∷ spelled right
@@ -64,16 +66,20 @@ as_conjunction = 2
 abbrev pub as_disjunction : ℕ
 as_disjunction = 3
 
--- the written formula may stand where its operators bind at most so loosely, within so many parentheses and operands
+-- the written formula may stand where its operators bind at most so loosely, within so many
+-- parentheses and operands
 abbrev pub Fits : ℕ → ℕ → Tree → Type 0
 Fits loose depth Truth = Unit {0}
 Fits loose depth Falsity = Unit {0}
 Fits loose depth (Leaf front last) = Unit {0}
 Fits loose depth (Apply op body) = (depth < 256) × Fits as_unary (depth + 1) body
 Fits loose depth (Group body) = (depth < 256) × Fits as_disjunction (depth + 1) body
-Fits loose depth (Timed op left right) = (as_timed ≤ loose) × Fits as_unary depth left × Fits as_unary depth right
-Fits loose depth (And left right) = (as_conjunction ≤ loose) × Fits as_conjunction depth left × Fits as_timed depth right
-Fits loose depth (Or left right) = (as_disjunction ≤ loose) × Fits as_disjunction depth left × Fits as_conjunction depth right
+Fits loose depth (Timed op left right) = (as_timed ≤ loose) × Fits as_unary depth left
+    × Fits as_unary depth right
+Fits loose depth (And left right) = (as_conjunction ≤ loose) × Fits as_conjunction depth left
+    × Fits as_timed depth right
+Fits loose depth (Or left right) = (as_disjunction ≤ loose) × Fits as_disjunction depth left
+    × Fits as_conjunction depth right
 
 abbrev pub variables_spelled : List (List ℕ) → List Symbol
 variables_spelled [] = []
@@ -85,11 +91,13 @@ pub data File : Type 0 where
   More : (front : File) (name : List ℕ) (variables : List (List ℕ)) (formula : Tree) → File
 
 abbrev pub opening : List ℕ → List (List ℕ) → List Symbol
-opening name variables = s.Name (word k.Query) ∷ s.Name name ∷ s.Open ∷ (variables_spelled variables ++ s.Close ∷ s.Equal ∷ [])
+opening name variables = s.Name (word k.Query) ∷ s.Name name ∷ s.Open
+    ∷ (variables_spelled variables ++ s.Close ∷ s.Equal ∷ [])
 
 abbrev pub file_spelled : File → List Symbol
 file_spelled Empty = []
-file_spelled (More front name variables formula) = file_spelled front ++ (opening name variables ++ (spelled formula ++ s.Semi ∷ []))
+file_spelled (More front name variables formula) =
+    file_spelled front ++ (opening name variables ++ (spelled formula ++ s.Semi ∷ []))
 
 abbrev pub FileFits : File → Type 0
 FileFits Empty = Unit {0}

@@ -1,5 +1,6 @@
 -- Reading a query file symbol by symbol.
-use Rattle.std.specs.Prelude.{ℕ, ◌+◌, nat_lt, if◌then◌else◌, List, [], ◌∷◌, ◌++◌, Option, Some, None}
+use Rattle.std.specs.Prelude.{ℕ, ◌+◌, nat_lt, if◌then◌else◌, List, [], ◌∷◌, ◌++◌, Option, Some}
+use Rattle.std.specs.Prelude.{None}
 use Rattle.tcq_grammar.specs.declared.words.UnaryOp.{UnaryOp}
 use Rattle.tcq_grammar.specs.declared.words.TimedOp.{TimedOp}
 use Rattle.tcq_grammar.specs.declared.words.Keyword.{Keyword}
@@ -7,7 +8,8 @@ use Rattle.tcq_grammar.specs.declared.words.Keyword.TheVariants as k
 use Rattle.tcq_grammar.specs.Words.{keyword_of}
 use Rattle.tcq_grammar.specs.Symbols.{Symbol}
 use Rattle.tcq_grammar.specs.Symbols as s
-use Rattle.tcq_grammar.specs.Grammar.{Term, Var, Ind, Atom, One, Two, Tree, Truth, Falsity, Leaf, Apply, Group, Timed, And, Or, File, More}
+use Rattle.tcq_grammar.specs.Grammar.{Term, Var, Ind, Atom, One, Two, Tree, Truth, Falsity, Leaf}
+use Rattle.tcq_grammar.specs.Grammar.{Apply, Group, Timed, And, Or, File, More}
 
 -- the left sides that wait for their right sides, the loosest first
 pub record Level : Type 0 where
@@ -70,26 +72,43 @@ abbrev pub timed_of : Level → Tree → Tree
 timed_of level tree = elim level.timed [ None ↦ tree | Some left ↦ Timed left.0 left.1 tree ]
 
 abbrev pub conjunction_of : Level → Tree → Tree
-conjunction_of level tree = elim level.both [ None ↦ timed_of level tree | Some left ↦ And left (timed_of level tree) ]
+conjunction_of level tree = elim level.both [
+  | None ↦ timed_of level tree
+  | Some left ↦
+      And left (timed_of level tree)
+]
 
 abbrev pub disjunction_of : Level → Tree → Tree
-disjunction_of level tree = elim level.either [ None ↦ conjunction_of level tree | Some left ↦ Or left (conjunction_of level tree) ]
+disjunction_of level tree = elim level.either [
+  | None ↦ conjunction_of level tree
+  | Some left ↦
+      Or left (conjunction_of level tree)
+]
 
 abbrev pub begin_word : Head → Stack → Keyword → Option State
 begin_word head stack k.True = Some (complete head stack Truth)
 begin_word head stack k.False = Some (complete head stack Falsity)
-begin_word head stack (k.Unary op) = if nat_lt (nesting stack) 256 then Some (Want head (Operand op stack)) else None
+begin_word head stack (k.Unary op) =
+    if nat_lt (nesting stack) 256 then Some (Want head (Operand op stack)) else None
 begin_word head stack _ = None
 
 -- the symbol where a formula is to come
 abbrev pub begin : Head → Stack → Symbol → Option State
 begin head stack (s.Name text) = begin_word head stack (keyword_of text)
 begin head stack s.Square = Some (InLeaf head stack (WantAtom []))
-begin head stack s.Open = if nat_lt (nesting stack) 256 then Some (Want head (Inside stack empty)) else None
+begin head stack s.Open = if nat_lt (nesting stack) 256 then Some (Want head (Inside stack empty))
+    else None
 begin head stack _ = None
 
-abbrev pub timed_left : Head → Option Stack → Level → Tree → TimedOp → Option (TimedOp × Tree) → Option State
-timed_left head outer level tree op None = Some (Want head (reopen outer (record { either = level.either; both = level.both; timed = Some (op, tree) })))
+abbrev pub timed_left : Head → Option Stack → Level → Tree → TimedOp → Option (TimedOp × Tree)
+    → Option State
+timed_left head outer level tree op None =
+    Some (Want head (reopen outer (record {
+      either = level.either;
+      both = level.both;
+      timed =
+          Some (op, tree);
+    })))
 timed_left head outer level tree op (Some left) = None
 
 abbrev pub close : Head → Option Stack → Tree → Option State
@@ -107,8 +126,20 @@ go_on_word head outer level tree _ = None
 -- the symbol where a formula has come
 abbrev pub go_on : Head → Option Stack → Level → Tree → Symbol → Option State
 go_on head outer level tree (s.Name text) = go_on_word head outer level tree (keyword_of text)
-go_on head outer level tree s.Amp = Some (Want head (reopen outer (record { either = level.either; both = Some (conjunction_of level tree); timed = None })))
-go_on head outer level tree s.Bar = Some (Want head (reopen outer (record { either = Some (disjunction_of level tree); both = None; timed = None })))
+go_on head outer level tree s.Amp =
+    Some (Want head (reopen outer (record {
+      either = level.either;
+      both =
+          Some (conjunction_of level tree);
+      timed = None;
+    })))
+go_on head outer level tree s.Bar =
+    Some (Want head (reopen outer (record {
+      either = Some (disjunction_of level tree);
+      both =
+          None;
+      timed = None;
+    })))
 go_on head outer level tree s.Close = close head outer (disjunction_of level tree)
 go_on head outer level tree s.Semi = finish head outer (disjunction_of level tree)
 go_on head outer level tree _ = None
@@ -126,11 +157,18 @@ after_query front (s.Name text) = Some (AfterName front text)
 after_query front _ = None
 
 abbrev pub after_name : File → List ℕ → Symbol → Option State
-after_name front name s.Open = Some (InVariables (record { front = front; name = name; variables = [] }))
+after_name front name s.Open =
+    Some (InVariables (record { front = front; name = name; variables = [] }))
 after_name front name _ = None
 
 abbrev pub in_variables : Head → Symbol → Option State
-in_variables head (s.Var text) = Some (InVariables (record { front = head.front; name = head.name; variables = head.variables ++ text ∷ [] }))
+in_variables head (s.Var text) =
+    Some (InVariables (record {
+      front = head.front;
+      name = head.name;
+      variables =
+          head.variables ++ text ∷ [];
+    }))
 in_variables head s.Close = Some (AfterVariables head)
 in_variables head _ = None
 
@@ -157,12 +195,14 @@ after_first front predicate first s.Close = Some (AfterAtom front (One predicate
 after_first front predicate first _ = None
 
 abbrev pub want_second : List Atom → List ℕ → Term → Symbol → Option Brackets
-want_second front predicate first (s.Name text) = Some (AfterSecond front predicate first (Ind text))
+want_second front predicate first (s.Name text) =
+    Some (AfterSecond front predicate first (Ind text))
 want_second front predicate first (s.Var text) = Some (AfterSecond front predicate first (Var text))
 want_second front predicate first _ = None
 
 abbrev pub after_second : List Atom → List ℕ → Term → Term → Symbol → Option Brackets
-after_second front predicate first second s.Close = Some (AfterAtom front (Two predicate first second))
+after_second front predicate first second s.Close =
+    Some (AfterAtom front (Two predicate first second))
 after_second front predicate first second _ = None
 
 abbrev pub after_atom : List Atom → Atom → Symbol → Option Brackets
@@ -176,7 +216,8 @@ brackets_step (AfterPredicate front predicate) symbol = after_predicate front pr
 brackets_step (WantFirst front predicate) symbol = want_first front predicate symbol
 brackets_step (AfterFirst front predicate first) symbol = after_first front predicate first symbol
 brackets_step (WantSecond front predicate first) symbol = want_second front predicate first symbol
-brackets_step (AfterSecond front predicate first second) symbol = after_second front predicate first second symbol
+brackets_step (AfterSecond front predicate first second) symbol =
+    after_second front predicate first second symbol
 brackets_step (AfterAtom front last) symbol = after_atom front last symbol
 
 abbrev pub stays_in_leaf : Head → Stack → Option Brackets → Option State

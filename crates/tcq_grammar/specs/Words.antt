@@ -13,8 +13,8 @@ word k.True = codes "true"
 word k.False = codes "false"
 word (k.Unary unary.Next) = codes "next"
 word (k.Unary unary.WeakNext) = codes "wnext"
-word (k.Unary unary.Previous) = codes "prev"
-word (k.Unary unary.WeakPrevious) = codes "wprev"
+word (k.Unary unary.Prev) = codes "prev"
+word (k.Unary unary.WeakPrev) = codes "wprev"
 word (k.Unary unary.Eventually) = codes "eventually"
 word (k.Unary unary.Always) = codes "always"
 word (k.Unary unary.Once) = codes "once"
@@ -26,14 +26,16 @@ word k.Plain = []
 abbrev pub keywords : List Keyword
 keywords =
     k.Query ∷ k.True ∷ k.False
-    ∷ k.Unary unary.Next ∷ k.Unary unary.WeakNext ∷ k.Unary unary.Previous ∷ k.Unary unary.WeakPrevious
-    ∷ k.Unary unary.Eventually ∷ k.Unary unary.Always ∷ k.Unary unary.Once ∷ k.Unary unary.Historically
+    ∷ k.Unary unary.Next ∷ k.Unary unary.WeakNext ∷ k.Unary unary.Prev ∷ k.Unary unary.WeakPrev
+    ∷ k.Unary unary.Eventually ∷ k.Unary unary.Always ∷ k.Unary unary.Once
+    ∷ k.Unary unary.Historically
     ∷ k.Timed timed.Until ∷ k.Timed timed.Since ∷ []
 
 -- the first of the keywords that is written so
 abbrev pub first_written : List Keyword → List ℕ → Keyword
 first_written [] text = k.Plain
-first_written (keyword ∷ rest) text = if bytes_eq text (word keyword) then keyword else first_written rest text
+first_written (keyword ∷ rest) text =
+    if bytes_eq text (word keyword) then keyword else first_written rest text
 
 -- the keyword that a name is
 unfoldable pub keyword_of : List ℕ → Keyword

@@ -1,5 +1,10 @@
+//! The state of a reader of query files.
+
 ghost use Rattle.std.specs.Prelude.{◌≡◌, if◌then◌else◌, IfOk};
-ghost use Rattle.tcq_grammar.specs.Control.{view, control_step, begin_control, begin_word_control, go_on_control, go_on_word_control, Moved, idle, in_mode, left_waits, completed, after_first_control, after_atom_control};
+ghost use Rattle.tcq_grammar.specs.Control.{view, control_step, begin_control, begin_word_control};
+ghost use Rattle.tcq_grammar.specs.Control.{go_on_control, go_on_word_control, Moved, idle};
+ghost use Rattle.tcq_grammar.specs.Control.{in_mode, left_waits, completed, after_first_control};
+ghost use Rattle.tcq_grammar.specs.Control.{after_atom_control};
 ghost use Rattle.tcq_grammar.specs.Symbols.{symbol};
 ghost use Rattle.tcq_grammar.specs.Symbols as s;
 ghost use Rattle.tcq_grammar.specs.Words as words;

@@ -1,3 +1,5 @@
+//! The first token at which a text stops being the front of a query file.
+
 ghost use Rattle.std.specs.Prelude.{◌≡◌};
 ghost use Rattle.tcq_grammar.specs.Fault.{Checks};
 

@@ -1,15 +1,12 @@
 //! The language of query files.
 //!
 //! ```text
-//! file    = { "query" NAME "(" { VAR } ")" "=" formula ";" }
-//! formula = conj { "|" conj }
-//! conj    = timed { "&" timed }
-//! timed   = unary [ ( "until" | "since" ) unary ]
-//! unary   = OP unary | "(" formula ")" | "true" | "false" | "[" atom { "," atom } "]"
-//! OP      = "next" | "wnext" | "prev" | "wprev" | "eventually" | "always" | "once"
+//! file    = { "query" NAME "(" { VAR } ")" "=" formula ";" } formula = conj { "|" conj } conj    =
+//! timed { "&" timed } timed   = unary [ ( "until" | "since" ) unary ] unary   = OP unary | "("
+//! formula ")" | "true" | "false" | "[" atom { "," atom } "]" OP      = "next" | "wnext" | "prev" |
+//! "wprev" | "eventually" | "always" | "once"
 //!         | "historically"
-//! atom    = NAME "(" term [ "," term ] ")"
-//! term    = VAR | NAME
+//! atom    = NAME "(" term [ "," term ] ")" term    = VAR | NAME
 //! ```
 //!
 //! `|` and `&` group to the left. The words in quotes have their meaning only where the grammar

@@ -1,3 +1,5 @@
+//! The operators and words of the query language.
+
 ghost use Rattle.std.specs.Prelude.{◌≡◌};
 ghost use Rattle.tcq_grammar.specs.Words as words;
 
@@ -6,8 +8,8 @@ ghost use Rattle.tcq_grammar.specs.Words as words;
 pub enum UnaryOp {
     Next,
     WeakNext,
-    Previous,
-    WeakPrevious,
+    Prev,
+    WeakPrev,
     Eventually,
     Always,
     Once,
@@ -49,9 +51,9 @@ pub fn keyword_of(name: &[u8]) -> Keyword
     } else if name == b"wnext".as_slice() {
         Keyword::Unary(UnaryOp::WeakNext)
     } else if name == b"prev".as_slice() {
-        Keyword::Unary(UnaryOp::Previous)
+        Keyword::Unary(UnaryOp::Prev)
     } else if name == b"wprev".as_slice() {
-        Keyword::Unary(UnaryOp::WeakPrevious)
+        Keyword::Unary(UnaryOp::WeakPrev)
     } else if name == b"eventually".as_slice() {
         Keyword::Unary(UnaryOp::Eventually)
     } else if name == b"always".as_slice() {

@@ -1,12 +1,15 @@
 -- A text is read in one way: it says one list of queries, or has one first fault.
-use Rattle.std.proofs.Common.{◌≡◌, ℕ, ◌<◌, ◌≤◌, inl, inr, None, Some, List, length, refl, sym, ◌∙◌, ap, arith}
+use Rattle.std.proofs.Common.{◌≡◌, ℕ, ◌<◌, ◌≤◌, inl, inr, None, Some, List, length, refl, sym, ◌∙◌}
+use Rattle.std.proofs.Common.{ap, arith}
 use Rattle.dl_syntax.specs.Ontology.{Declared}
 use Rattle.tcq_grammar.specs.Texts.{marks, symbols}
 use Rattle.tcq_grammar.specs.Grammar.{IsFile}
 use Rattle.tcq_grammar.proofs.Language.{one_file}
 use Rattle.tcq_grammar.proofs.Stops.{file_begins, stops_once, fronts_go_on}
 use Rattle.tcq_reader.specs.declared.faults.QueryKind.{QueryKind}
-use Rattle.tcq_reader.specs.declared.faults.QueryKind.TheVariants.{BadQuery, NameTwice, Unknown, WrongKind, Undeclared, TooMany, TooLarge, TooLong}
+use Rattle.tcq_reader.specs.declared.faults.QueryKind.TheVariants.{BadQuery, NameTwice, Unknown}
+use Rattle.tcq_reader.specs.declared.faults.QueryKind.TheVariants.{WrongKind, Undeclared, TooMany}
+use Rattle.tcq_reader.specs.declared.faults.QueryKind.TheVariants.{TooLarge, TooLong}
 use Rattle.tcq_reader.specs.Meaning.{queries_said}
 use Rattle.tcq_reader.specs.Reading.{most_bytes, line_of, fault_in, IsBadQuery, IsWrong, IsFault}
 use Rattle.tcq_reader.specs.Laws.{OneSaying, SaidHaveNoFault, OneFault}

@@ -1,5 +1,6 @@
 -- What each token adds to the queries.
-use Rattle.std.specs.Prelude.{◌≡◌, ℕ, ◌+◌, ◌<◌, ◌≤◌, List, [], ◌∷◌, ◌++◌, length, map, Option, Some, None}
+use Rattle.std.specs.Prelude.{◌≡◌, ℕ, ◌+◌, ◌<◌, ◌≤◌, List, [], ◌∷◌, ◌++◌, length, map, Option, Some}
+use Rattle.std.specs.Prelude.{None}
 use Rattle.dl_syntax.specs.Ontology.{Declared}
 use Rattle.tcq_syntax.specs.declared.nodes.Node.TheVariants as node
 use Rattle.tcq_syntax.specs.Tcq.{Tcq, IsTcq}
@@ -15,8 +16,11 @@ use Rattle.tcq_grammar.specs.Texts.{Mark}
 use Rattle.tcq_reader.specs.declared.builder.Builder.{Builder}
 use Rattle.tcq_reader.specs.Leaves.{Draft, blank, query_of}
 use Rattle.tcq_reader.specs.Faults.{name_verdict, units_verdict, end_verdict}
-use Rattle.tcq_reader.specs.Building.{Table, table, no_table, disjunction_nodes, with_operand, with_op, opened, timed_waits, both_waits, either_waits, closed}
-use Rattle.tcq_reader.specs.Drafting.{draft, marked, Outcome, Gives, Stops, Free, stop_at, if_name, atom_added, answer_added, emptied}
+use Rattle.tcq_reader.specs.Building.{Table, table, no_table, disjunction_nodes, with_operand}
+use Rattle.tcq_reader.specs.Building.{with_op, opened, timed_waits, both_waits, either_waits}
+use Rattle.tcq_reader.specs.Building.{closed}
+use Rattle.tcq_reader.specs.Drafting.{draft, marked, Outcome, Gives, Stops, Free, stop_at, if_name}
+use Rattle.tcq_reader.specs.Drafting.{atom_added, answer_added, emptied}
 
 -- what is built so far
 pub record Build : Type 0 where
@@ -29,23 +33,63 @@ pub record Build : Type 0 where
   pub words : List Mark
 
 abbrev pub build : Builder → Build
-build b = record { queries = b.queries.items; total = b.total; name = b.name.now; leaf = draft b.leaf; table = table b.table; words = map marked b.words.items }
+build b = record {
+  queries = b.queries.items;
+  total = b.total;
+  name = b.name.now;
+  leaf =
+      draft b.leaf;
+  table = table b.table;
+  words = map marked b.words.items;
+}
 
 -- ---- the whole
 
 abbrev pub with_table : Build → Table → Build
-with_table b t = record { queries = b.queries; total = b.total; name = b.name; leaf = b.leaf; table = t; words = b.words }
+with_table b t = record {
+  queries = b.queries;
+  total = b.total;
+  name = b.name;
+  leaf =
+      b.leaf;
+  table = t;
+  words = b.words;
+}
 
 abbrev pub with_leaf : Build → Draft → Build
-with_leaf b d = record { queries = b.queries; total = b.total; name = b.name; leaf = d; table = b.table; words = b.words }
+with_leaf b d = record {
+  queries = b.queries;
+  total = b.total;
+  name = b.name;
+  leaf = d;
+  table =
+      b.table;
+  words = b.words;
+}
 
 abbrev pub with_words : Build → List Mark → Build
-with_words b words = record { queries = b.queries; total = b.total; name = b.name; leaf = b.leaf; table = b.table; words = words }
+with_words b words = record {
+  queries = b.queries;
+  total = b.total;
+  name = b.name;
+  leaf =
+      b.leaf;
+  table = b.table;
+  words = words;
+}
 
 abbrev pub begun_with : Build → List ℕ → ℕ → Outcome Build
 begun_with b text place =
     stop_at (name_verdict b.queries text) place
-    (Gives (record { queries = b.queries; total = b.total; name = text; leaf = b.leaf; table = b.table; words = b.words }))
+    (Gives (record {
+      queries = b.queries;
+      total = b.total;
+      name = text;
+      leaf = b.leaf;
+      table =
+          b.table;
+      words = b.words;
+    }))
 
 abbrev pub begun : Build → Mark → Outcome Build
 begun b t = if_name t.symbol (λ text. begun_with b text t.start)
@@ -77,13 +121,27 @@ word_had b _ = Free
 
 -- the query that a semicolon ends
 abbrev pub query_built : Build → Tcq
-query_built b = record { name = b.name; vars = b.leaf.vars; nodes = disjunction_nodes b.table.places b.table.nodes }
+query_built b = record {
+  name = b.name;
+  vars = b.leaf.vars;
+  nodes =
+      disjunction_nodes b.table.places b.table.nodes;
+}
 
 abbrev pub with_query : ℕ → Build → Tcq → Build
-with_query individuals b q = record { queries = b.queries ++ q ∷ []; total = b.total + units_of individuals q; name = []; leaf = blank []; table = b.table; words = b.words }
+with_query individuals b q = record {
+  queries = b.queries ++ q ∷ [];
+  total =
+      b.total + units_of individuals q;
+  name = [];
+  leaf = blank [];
+  table = b.table;
+  words = b.words;
+}
 
 abbrev pub query_added : ℕ → Build → Tcq → ℕ → Outcome Build
-query_added individuals b q place = stop_at (units_verdict individuals b.queries q) place (Gives (with_query individuals b q))
+query_added individuals b q place =
+    stop_at (units_verdict individuals b.queries q) place (Gives (with_query individuals b q))
 
 abbrev pub finished : ℕ → Build → ℕ → Outcome Build
 finished individuals b place =
@@ -115,7 +173,9 @@ atom_ended o b s.Close = atom_gives b (atom_added o b.leaf b.words)
 atom_ended o b _ = Gives b
 
 abbrev pub leaf_ended : Build → Symbol → Outcome Build
-leaf_ended b s.Unsquare = Gives (with_leaf (with_table b (with_operand b.table (node.Leaf (query_of b.leaf)))) (emptied b.leaf))
+leaf_ended b s.Unsquare =
+    Gives (with_leaf (with_table b (with_operand b.table (node.Leaf (query_of b.leaf))))
+    (emptied b.leaf))
 leaf_ended b _ = Gives b
 
 -- what comes of a token where the reader is in this mode
@@ -133,11 +193,20 @@ acted o m.AfterAtom b t = leaf_ended b t.symbol
 acted o _ b t = Gives b
 
 abbrev pub nothing_built : Build
-nothing_built = record { queries = []; total = 0; name = []; leaf = blank []; table = no_table; words = [] }
+nothing_built = record {
+  queries = [];
+  total = 0;
+  name = [];
+  leaf = blank [];
+  table =
+      no_table;
+  words = [];
+}
 
 -- the table at the end of a query within the limits is a query's
 abbrev pub EndsAsQuery : Build → Type 0
-EndsAsQuery b = length (query_built b).nodes ≤ 64 → futures (query_built b).nodes ≤ 8 → IsTcq b.leaf.vars (query_built b).nodes
+EndsAsQuery b = length (query_built b).nodes ≤ 64 → futures (query_built b).nodes ≤ 8
+    → IsTcq b.leaf.vars (query_built b).nodes
 
 -- what a builder keeps
 pub record IsSound (individuals : ℕ) (b : Build) : Type 0 where

@@ -1,5 +1,6 @@
 -- What each word of a leaf adds to it.
-use Rattle.std.specs.Prelude.{◌≡◌, ℕ, ◌+◌, List, [], ◌∷◌, ◌++◌, length, map, take, Result, Ok, Err, Option, Some, None}
+use Rattle.std.specs.Prelude.{◌≡◌, ℕ, ◌+◌, List, [], ◌∷◌, ◌++◌, length, map, take, Result, Ok, Err}
+use Rattle.std.specs.Prelude.{Option, Some, None}
 use Rattle.dl_syntax.specs.declared.names.Kind.{Kind}
 use Rattle.dl_syntax.specs.declared.names.Kind.TheVariants.{Concept, Role}
 use Rattle.dl_syntax.specs.declared.queries.Term.{Term}
@@ -13,7 +14,8 @@ use Rattle.tcq_reader.specs.declared.faults.QueryKind.{QueryKind}
 use Rattle.tcq_reader.specs.declared.faults.Stop.{Stop}
 use Rattle.tcq_reader.specs.declared.faults.Stop.TheVariants as stop
 use Rattle.tcq_reader.specs.declared.leaf.LeafBuilder.{LeafBuilder}
-use Rattle.tcq_reader.specs.Leaves.{Draft, seen_with, term_said, with_one, with_two, term_verdict, predicate_verdict}
+use Rattle.tcq_reader.specs.Leaves.{Draft, seen_with, term_said, with_one, with_two, term_verdict}
+use Rattle.tcq_reader.specs.Leaves.{predicate_verdict}
 use Rattle.tcq_reader.specs.Faults.{variable_verdict}
 
 abbrev pub draft : LeafBuilder → Draft
@@ -22,7 +24,8 @@ draft l = record { vars = l.vars; seen = map (λ v. v.now) l.variables.items; bo
 abbrev pub marked : Token → Mark
 marked t = record { symbol = symbol t; start = t.start }
 
--- what comes of a token: something new, a fault at a place, or, where the grammar has no such token, nothing that is said
+-- what comes of a token: something new, a fault at a place, or, where the grammar has no such
+-- token, nothing that is said
 pub data Outcome (X : Type 0) : Type 0 where
   Gives : X → Outcome X
   Stops : ℕ → QueryKind → Outcome X
@@ -73,10 +76,13 @@ two_said o d p predicate x first y second =
     (Gives (with_two o d predicate first second))))
 
 abbrev pub one_added : Declared → Draft → Mark → Mark → Outcome Draft
-one_added o d p x = if_name p.symbol (λ predicate. if_term x.symbol (λ first. one_said o d p.start predicate x.start first))
+one_added o d p x = if_name p.symbol (λ predicate.
+    if_term x.symbol (λ first. one_said o d p.start predicate x.start first))
 
 abbrev pub two_added : Declared → Draft → Mark → Mark → Mark → Outcome Draft
-two_added o d p x y = if_name p.symbol (λ predicate. if_term x.symbol (λ first. if_term y.symbol (λ second. two_said o d p.start predicate x.start first y.start second)))
+two_added o d p x y = if_name p.symbol (λ predicate.
+    if_term x.symbol (λ first. if_term y.symbol (λ second.
+    two_said o d p.start predicate x.start first y.start second)))
 
 abbrev pub atom_added : Declared → Draft → List Mark → Outcome Draft
 atom_added o d (p ∷ x ∷ []) = one_added o d p x
@@ -100,8 +106,10 @@ with_seen d seen = record { vars = d.vars; seen = seen; body = d.body }
 
 -- the number of a predicate that is to be of this kind, or what is wrong with it
 abbrev pub TellsPredicate : Declared → ℕ → Kind → List ℕ → ℕ → Result ℕ Stop → Type 0
-TellsPredicate o before kind text start (Ok number) = (predicate_verdict o before kind text ≡ None) × (number_of kind o text ≡ Some number)
-TellsPredicate o before kind text start (Err (stop.At place what)) = (place ≡ start) × (predicate_verdict o before kind text ≡ Some what)
+TellsPredicate o before kind text start (Ok number) = (predicate_verdict o before kind text ≡ None)
+    × (number_of kind o text ≡ Some number)
+TellsPredicate o before kind text start (Err (stop.At place what)) =
+    (place ≡ start) × (predicate_verdict o before kind text ≡ Some what)
 TellsPredicate o before kind text start (Err stop.Memory) = Unit {0}
 
 abbrev pub OnName : Symbol → (List ℕ → Type 0) → Type 0
@@ -110,8 +118,10 @@ OnName _ P = Unit {0}
 
 -- the term that is written, or what is wrong with it
 abbrev pub TellsTerm : Declared → Draft → g.Term → ℕ → Result Term Stop → Draft → Type 0
-TellsTerm o d written start (Ok term) new = (term_verdict o written ≡ None) × (term ≡ term_said o d.seen written) × (new ≡ with_seen d (seen_with d.seen written))
-TellsTerm o d written start (Err (stop.At place what)) new = (place ≡ start) × (term_verdict o written ≡ Some what)
+TellsTerm o d written start (Ok term) new = (term_verdict o written ≡ None)
+    × (term ≡ term_said o d.seen written) × (new ≡ with_seen d (seen_with d.seen written))
+TellsTerm o d written start (Err (stop.At place what)) new =
+    (place ≡ start) × (term_verdict o written ≡ Some what)
 TellsTerm o d written start (Err stop.Memory) new = Unit {0}
 
 abbrev pub OnTerm : Symbol → (g.Term → Type 0) → Type 0

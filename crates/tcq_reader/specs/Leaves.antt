@@ -1,5 +1,6 @@
 -- The conjunctive query that a leaf says.
-use Rattle.std.specs.Prelude.{ℕ, zero, suc, nat_le, Bool, false, ◌==◌, ◌||◌, if◌then◌else◌, List, [], ◌∷◌, ◌++◌, length, position, Option, Some, None, unwrap_or}
+use Rattle.std.specs.Prelude.{ℕ, zero, suc, nat_le, Bool, false, ◌==◌, ◌||◌, if◌then◌else◌, List}
+use Rattle.std.specs.Prelude.{[], ◌∷◌, ◌++◌, length, position, Option, Some, None, unwrap_or}
 use Rattle.std.specs.List.{list_any}
 use Rattle.std.specs.Str.{bytes_eq}
 use Rattle.dl_syntax.specs.declared.names.Kind.{Kind}
@@ -15,8 +16,8 @@ use Rattle.tcq_reader.specs.declared.faults.QueryKind.{QueryKind}
 use Rattle.tcq_reader.specs.declared.faults.QueryKind.TheVariants.{TooMany}
 use Rattle.tcq_reader.specs.Names.{verdict_of_name, verdict_of_individual}
 
--- the atoms of a leaf so far: the number of answer variables, the variables by their numbers, first the answer
--- variables and then the others in the order in which they first occur, and the body
+-- the atoms of a leaf so far: the number of answer variables, the variables by their numbers, first
+-- the answer variables and then the others in the order in which they first occur, and the body
 pub record Draft : Type 0 where
   pub vars : ℕ
   pub seen : List (List ℕ)
@@ -50,14 +51,21 @@ abbrev pub with_one : Declared → Draft → List ℕ → g.Term → Draft
 with_one o d predicate x = record {
   vars = d.vars;
   seen = seen_with d.seen x;
-  body = d.body ++ atom.Concept (record { 0 = unwrap_or (number_of Concept o predicate) 0 }) (term_said o d.seen x) ∷ [];
+  body = d.body ++ atom.Concept (record {
+    0 =
+        unwrap_or (number_of Concept o predicate) 0;
+  }) (term_said o d.seen x) ∷ [];
 }
 
 abbrev pub with_two : Declared → Draft → List ℕ → g.Term → g.Term → Draft
 with_two o d predicate x y = record {
   vars = d.vars;
   seen = seen_with (seen_with d.seen x) y;
-  body = d.body ++ atom.Role (record { 0 = unwrap_or (number_of Role o predicate) 0 }) (term_said o d.seen x) (term_said o (seen_with d.seen x) y) ∷ [];
+  body = d.body ++ atom.Role (record {
+    0 =
+        unwrap_or (number_of Role o predicate) 0;
+  }) (term_said o d.seen x)
+      (term_said o (seen_with d.seen x) y) ∷ [];
 }
 
 -- with one more atom
@@ -102,4 +110,5 @@ term_verdict o (g.Ind text) = verdict_of_individual (number_of Individual o text
 
 -- what is wrong with the predicate of this kind behind so many atoms of its leaf
 abbrev pub predicate_verdict : Declared → ℕ → Kind → List ℕ → Option QueryKind
-predicate_verdict o before kind text = if nat_le 8 before then Some TooMany else verdict_of_name o kind text
+predicate_verdict o before kind text =
+    if nat_le 8 before then Some TooMany else verdict_of_name o kind text

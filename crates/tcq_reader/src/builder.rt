@@ -1,3 +1,5 @@
+//! Queries as they are built, token by token.
+
 ghost use Rattle.std.specs.Prelude.{◌≡◌, ◌+◌, ◌<◌, ◌≤◌, length};
 ghost use Rattle.std.specs.List.{list_any};
 ghost use Rattle.std.specs.Str.{bytes_eq};
@@ -6,7 +8,10 @@ ghost use Rattle.tcq_grammar.specs.Words as words;
 ghost use Rattle.tcq_syntax.specs.Sizes as sizes;
 ghost use Rattle.tcq_syntax.specs.Tcq.{IsTcq};
 ghost use Rattle.tcq_reader.specs.Drafting.{marked, GivesTo, Answers};
-ghost use Rattle.tcq_reader.specs.Acting.{build, begun, answered, wanted, word_wanted, had, word_had, finished, query_added, word_added, atom_ended, leaf_ended, acted, nothing_built, EndsAsQuery, IsSound, EndsAt};
+ghost use Rattle.tcq_reader.specs.Acting.{build, begun, answered, wanted, word_wanted, had};
+ghost use Rattle.tcq_reader.specs.Acting.{word_had, finished, query_added, word_added, atom_ended};
+ghost use Rattle.tcq_reader.specs.Acting.{leaf_ended, acted, nothing_built, EndsAsQuery, IsSound};
+ghost use Rattle.tcq_reader.specs.Acting.{EndsAt};
 
 use crate::faults::{QueryKind, Stop};
 use crate::leaf::LeafBuilder;

@@ -1,3 +1,5 @@
+//! Why a text says no queries.
+
 use dl_syntax::Memory;
 use std::alloc::AllocFailed;
 

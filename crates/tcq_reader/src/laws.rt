@@ -1,5 +1,6 @@
 //! Laws of what a query text says, each the contract of a function with nothing to do.
-ghost use Rattle.tcq_reader.specs.Laws.{OneFault, OneSaying, SaidAreNamed, SaidAreWithin, SaidHaveNoFault};
+ghost use Rattle.tcq_reader.specs.Laws.{OneFault, OneSaying, SaidAreNamed, SaidAreWithin};
+ghost use Rattle.tcq_reader.specs.Laws.{SaidHaveNoFault};
 
 /// The queries that a text says name only what the ontology declares, and neither they nor their
 /// units over its individuals are more than may be.

@@ -1,7 +1,11 @@
+//! A leaf as it is built, atom by atom.
+
 ghost use Rattle.std.specs.Prelude.{◌≡◌, ◌+◌, ◌<◌, ◌≤◌, [], ◌∷◌, ◌++◌, map, length, IfOk, OnOk};
 ghost use Rattle.tcq_reader.specs.Leaves as leaves;
 ghost use Rattle.tcq_reader.specs.Leaves.{blank, query_of, known_as, variable_number, seen_after};
-ghost use Rattle.tcq_reader.specs.Drafting.{draft, marked, with_seen, TellsPredicate, TellsTerm, OnName, OnTerm, Answers, one_added, two_added, atom_added, answer_added, emptied};
+ghost use Rattle.tcq_reader.specs.Drafting.{draft, marked, with_seen, TellsPredicate, TellsTerm};
+ghost use Rattle.tcq_reader.specs.Drafting.{OnName, OnTerm, Answers, one_added, two_added};
+ghost use Rattle.tcq_reader.specs.Drafting.{atom_added, answer_added, emptied};
 ghost use Rattle.tcq_grammar.specs.Symbols.{symbol};
 
 use crate::faults::{QueryKind, Stop};

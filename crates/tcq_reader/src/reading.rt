@@ -1,3 +1,5 @@
+//! The queries of a whole text.
+
 ghost use Rattle.std.specs.Prelude.{◌≡◌, ◌≤◌, ◌==◌, count_by, length, Err};
 ghost use Rattle.tcq_grammar.specs.Grammar.{IsFile};
 ghost use Rattle.tcq_grammar.specs.Texts.{marks, symbols};

@@ -1,3 +1,5 @@
+//! A table of nodes as it is built, operator by operator.
+
 ghost use Rattle.std.specs.Prelude.{◌≡◌, ◌<◌, ◌≤◌, vec_len, Some, None, IfSome, OnOk, IfOk};
 ghost use Rattle.tcq_reader.specs.Meaning as meaning;
 
@@ -47,8 +49,8 @@ fn unary_node(op: UnaryOp, operand: u16) -> Node
     match op {
         UnaryOp::Next => Node::Next(operand),
         UnaryOp::WeakNext => Node::WeakNext(operand),
-        UnaryOp::Previous => Node::Prev(operand),
-        UnaryOp::WeakPrevious => Node::WeakPrev(operand),
+        UnaryOp::Prev => Node::Prev(operand),
+        UnaryOp::WeakPrev => Node::WeakPrev(operand),
         UnaryOp::Eventually => Node::Eventually(operand),
         UnaryOp::Always => Node::Always(operand),
         UnaryOp::Once => Node::Once(operand),
@@ -67,7 +69,10 @@ fn timed_node(op: TimedOp, left: u16, right: u16) -> Node
 
 impl TableBuilder {
     ghost use Rattle.tcq_reader.specs.Building as building;
-    ghost use Rattle.tcq_reader.specs.Building.{table, with_nodes, conjunction_nodes, disjunction_nodes, timed_joined, with_operand, with_op, opened, timed_waits, both_waits, either_waits, applied, no_table, closed};
+    ghost use Rattle.tcq_reader.specs.Building.{table, with_nodes, conjunction_nodes};
+    ghost use Rattle.tcq_reader.specs.Building.{disjunction_nodes, timed_joined, with_operand};
+    ghost use Rattle.tcq_reader.specs.Building.{with_op, opened, timed_waits, both_waits};
+    ghost use Rattle.tcq_reader.specs.Building.{either_waits, applied, no_table, closed};
 
     pub(crate) fn new(alloc: Global) -> TableBuilder
         ensures { table result ≡ no_table }

@@ -11,9 +11,11 @@ use Rattle.tcq_syntax.specs.Time.{Holds, NodeHolds}
 use Rattle.tcq_syntax.specs.Laws.{NodesHold}
 use Rattle.tcq_syntax.proofs.Tables.{formula_at-node}
 
-module _ (inclusions : List Inclusion) (history : History) (row : List IndId) (child : ℕ → Formula) (number i : ℕ) where
+module _ (inclusions : List Inclusion) (history : History) (row : List IndId) (child : ℕ
+    → Formula) (number i : ℕ) where
   abbrev Says : Node → Type 0
-  Says n = Holds inclusions history row (formula_of child number n) i ↔ NodeHolds inclusions history row (λ c. Holds inclusions history row (child c)) n i
+  Says n = Holds inclusions history row (formula_of child number n) i
+      ↔ NodeHolds inclusions history row (λ c. Holds inclusions history row (child c)) n i
 
   says : (n : Node) → Says n
   says node.True = (λ h. h, λ h. h)
@@ -34,5 +36,8 @@ module _ (inclusions : List Inclusion) (history : History) (row : List IndId) (c
 
 pub nodes_hold : NodesHold
 nodes_hold inclusions history row nodes table place n at i =
-    subst (λ (f : Formula). Holds inclusions history row f i ↔ NodeHolds inclusions history row (λ child. Holds inclusions history row (formula_at nodes child)) n i)
-    (sym (formula_at-node nodes table place n at)) (says inclusions history row (formula_at nodes) (number_at nodes place) i n)
+    subst (λ (f : Formula). Holds inclusions history row f i
+    ↔ NodeHolds inclusions history row (λ child.
+    Holds inclusions history row (formula_at nodes child)) n i)
+    (sym (formula_at-node nodes table place n at))
+    (says inclusions history row (formula_at nodes) (number_at nodes place) i n)

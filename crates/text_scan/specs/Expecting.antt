@@ -15,4 +15,5 @@ IsMark _ = Unit {0}
 -- the next token where it is of this kind, and nothing where no token of this kind comes next
 abbrev pub IsNextOf : TokenKind → List ℕ → ℕ → Option Token → Type 0
 IsNextOf kind text from (Some t) = (t.kind ≡ kind) × IsNext text from (next.Token t)
-IsNextOf kind text from None = (first : Lexeme) (rest : Lexed) → lexed_from text from ≡ with_first first rest → first.kind ≡ kind → ⊥
+IsNextOf kind text from None = (first : Lexeme) (rest : Lexed)
+    → lexed_from text from ≡ with_first first rest → first.kind ≡ kind → ⊥

@@ -1,3 +1,5 @@
+//! The next token, where one of a kind is expected.
+
 ghost use Rattle.std.specs.Prelude.{◌≡◌, ◌≤◌, ◌==◌, ◌||◌, length};
 ghost use Rattle.text_scan.specs.Bytes.{is_blank};
 ghost use Rattle.text_scan.specs.Expecting.{IsMark, IsNextOf};

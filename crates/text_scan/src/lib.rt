@@ -1,11 +1,13 @@
 //! Tokens of a text of bytes.
 #![tactic(auto)]
 
-ghost use Rattle.std.specs.Prelude.{IfOk, Ok, Err, ◌≡◌, ◌+◌, ◌-◌, ◌≤◌, ◌<◌, ◌^◌, ◌||◌, ◌&&◌, length, drop, take, map};
+ghost use Rattle.std.specs.Prelude.{IfOk, Ok, Err, ◌≡◌, ◌+◌, ◌-◌, ◌≤◌, ◌<◌, ◌^◌, ◌||◌, ◌&&◌};
+ghost use Rattle.std.specs.Prelude.{length, drop, take, map};
 ghost use Rattle.std.specs.List.{prefix_len, All};
 ghost use Rattle.text_scan.specs.declared.ScanFault.TheVariants.{Memory};
 ghost use Rattle.text_scan.specs.Bytes.{is_letter, is_name_byte};
-ghost use Rattle.text_scan.specs.Lexing.{front_piece, named, variable, mark, LiesWithin, Scans, AreSlices, IsNext, lexeme, lexed, behind};
+ghost use Rattle.text_scan.specs.Lexing.{front_piece, named, variable, mark, LiesWithin, Scans};
+ghost use Rattle.text_scan.specs.Lexing.{AreSlices, IsNext, lexeme, lexed, behind};
 ghost use Rattle.text_scan.specs.Spelling.{IsSpelled};
 
 mod expecting;
@@ -173,7 +175,8 @@ fn piece_at(text: &[u8], place: usize) -> Piece
 #[inline]
 fn token_at<'a>(text: &'a [u8], kind: TokenKind, start: usize, len: usize) -> Token<'a>
     requires { start + len ≤ length text.now }
-    ensures { lexeme result ≡ record { kind = kind; text = take len (drop start text.now); start = start } }
+    ensures { lexeme result
+        ≡ record { kind = kind; text = take len (drop start text.now); start = start } }
 {
     Token {
         kind,
@@ -219,7 +222,8 @@ pub struct Front<'a> {
 
 /// The tokens from the front of the text on.
 pub fn scan_front<'a>(alloc: Global, text: &'a [u8]) -> Result<Front<'a>, AllocError>
-    ensures { IfOk result (λ f. record { tokens = map lexeme f.tokens.items; fault = f.fault } ≡ lexed 0 0 text.now) }
+    ensures { IfOk result (λ f. record { tokens = map lexeme f.tokens.items; fault = f.fault }
+        ≡ lexed 0 0 text.now) }
 {
     let mut tokens = Vec::new(alloc);
     let mut place = 0;

@@ -1,3 +1,5 @@
+//! The lines of a text.
+
 ghost use Rattle.std.specs.Prelude.{◌≡◌, ◌+◌, ◌≤◌, ◌<◌, ◌∷◌, length, drop};
 ghost use Rattle.std.specs.List.{prefix_len};
 ghost use Rattle.text_scan.specs.Bytes.{is_comment_byte};
@@ -20,7 +22,8 @@ pub(crate) fn line_end(text: &[u8], from: usize) -> usize
 /// The line that begins at `from`, without its newline.
 pub fn line_at<'a>(text: &'a [u8], from: usize) -> &'a [u8]
     requires { from < length text.now }
-    ensures line { lines_of (drop from text.now) ≡ result.now ∷ lines_of (drop (from + length result.now + 1) text.now) }
+    ensures line { lines_of (drop from text.now)
+        ≡ result.now ∷ lines_of (drop (from + length result.now + 1) text.now) }
     ensures within { from + length result.now ≤ length text.now }
 {
     let end = line_end(text, from);

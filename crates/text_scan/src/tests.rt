@@ -1,3 +1,5 @@
+//! Tests of the public calls, and the worked examples.
+
 use crate::{Next, ScanFault, TokenKind, line_at, next_token, scan, scan_front};
 use std::test::Fail;
 

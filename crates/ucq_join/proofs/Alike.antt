@@ -13,16 +13,42 @@ own_predicate : (t : Assignment) (a : Atom) → HasPredicateOf a (atom_at t a)
 own_predicate t (atom.Concept c x) = refl
 own_predicate t (atom.Role p x y) = refl
 
-match_there : (body : List Atom) (facts other : List Fact) (t : Assignment) → AgreeOn body facts other → Match body facts t → Match body other t
+match_there : (body : List Atom) (facts other : List Fact) (t : Assignment)
+    → AgreeOn body facts other → Match body facts t → Match body other t
 match_there body facts other t agree match =
-    All-from_contains (λ (a : Atom). Contains other (atom_at t a)) body (λ a there. (agree a (atom_at t a) there (own_predicate t a)).0 (All-contains (λ (a : Atom). Contains facts (atom_at t a)) body a match there))
+    All-from_contains (λ (a : Atom). Contains other (atom_at t a)) body (λ a there.
+    (agree a (atom_at t a) there (own_predicate t a)).0
+    (All-contains (λ (a : Atom). Contains facts (atom_at t a)) body a match there))
 
-match_back : (body : List Atom) (facts other : List Fact) (t : Assignment) → AgreeOn body facts other → Match body other t → Match body facts t
+match_back : (body : List Atom) (facts other : List Fact) (t : Assignment)
+    → AgreeOn body facts other → Match body other t → Match body facts t
 match_back body facts other t agree match =
-    All-from_contains (λ (a : Atom). Contains facts (atom_at t a)) body (λ a there. (agree a (atom_at t a) there (own_predicate t a)).1 (All-contains (λ (a : Atom). Contains other (atom_at t a)) body a match there))
+    All-from_contains (λ (a : Atom). Contains facts (atom_at t a)) body (λ a there.
+    (agree a (atom_at t a) there (own_predicate t a)).1
+    (All-contains (λ (a : Atom). Contains other (atom_at t a)) body a match there))
 
 pub answers_alike : AnswersAreAlike
 answers_alike union facts other row agree = (
-  λ (q, there, answer). (q, there, record { assignment = answer.assignment; match = match_there q.body facts other answer.assignment (agree q there) answer.match; head = answer.head }),
-  λ (q, there, answer). (q, there, record { assignment = answer.assignment; match = match_back q.body facts other answer.assignment (agree q there) answer.match; head = answer.head }),
+  λ (q, there, answer). (
+    q,
+    there,
+    record {
+      assignment = answer.assignment;
+      match =
+          match_there q.body facts other answer.assignment (agree q there) answer.match;
+      head =
+          answer.head;
+    },
+  ),
+  λ (q, there, answer). (
+    q,
+    there,
+    record {
+      assignment = answer.assignment;
+      match =
+          match_back q.body facts other answer.assignment (agree q there) answer.match;
+      head =
+          answer.head;
+    },
+  ),
 )

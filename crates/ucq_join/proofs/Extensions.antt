@@ -1,6 +1,7 @@
 -- A partial assignment stands for the substitutions that extend it, and binding an atom to a fact
 -- keeps those that make the atom this fact.
-use Rattle.std.specs.Prelude.{◌≡◌, ℕ, List, [], ◌∷◌, ◌++◌, Bool, true, false, ◌==◌, Option, Some, None, cond, refl, MatchOption, IsSome, is_some, unwrap_or}
+use Rattle.std.specs.Prelude.{◌≡◌, ℕ, List, [], ◌∷◌, ◌++◌, Bool, true, false, ◌==◌, Option, Some}
+use Rattle.std.specs.Prelude.{None, cond, refl, MatchOption, IsSome, is_some, unwrap_or}
 use Rattle.std.proofs.Common.{sym, ◌∙◌, ap, subst, inl, inr, arith, eq-eqb}
 use Rattle.std.specs.Option.{option_and_then}
 use Rattle.std.proofs.lemmas.Bool.Decides.{nat_tests}
@@ -39,15 +40,20 @@ abbrev or_value : Option Element → Option Element → Option Element
 or_value None y = y
 or_value (Some x) y = Some x
 
-value_at : (b : Bool) (e : Element) (o p q : Option Element) → o ≡ or_value p q → cond b (Some e) o ≡ or_value (cond b (Some e) p) q
+value_at : (b : Bool) (e : Element) (o p q : Option Element) → o ≡ or_value p q
+    → cond b (Some e) o ≡ or_value (cond b (Some e) p) q
 value_at true e o p q h = refl
 value_at false e o p q h = h
 
-value_of-append : (bs cs : List Binding) (v : ℕ) → value_of (bs ++ cs) v ≡ or_value (value_of bs v) (value_of cs v)
+value_of-append : (bs cs : List Binding) (v : ℕ)
+    → value_of (bs ++ cs) v ≡ or_value (value_of bs v) (value_of cs v)
 value_of-append [] cs v = refl
-value_of-append (b ∷ bs) cs v = value_at (b.variable == v) b.element (value_of (bs ++ cs) v) (value_of bs v) (value_of cs v) (value_of-append bs cs v)
+value_of-append (b ∷ bs) cs v =
+    value_at (b.variable == v) b.element (value_of (bs ++ cs) v) (value_of bs v) (value_of cs v)
+    (value_of-append bs cs v)
 
-value_of-own : (v : ℕ) (e : Element) → value_of (record { variable = v; element = e } ∷ []) v ≡ Some e
+value_of-own : (v : ℕ) (e : Element) → value_of (record { variable = v; element = e } ∷ []) v
+    ≡ Some e
 value_of-own v e = let h : (v == v) ≡ true = eq-eqb v v refl in rw h refl
 
 or_some : (p q : Option Element) → IsSome p → IsSome (or_value p q)
@@ -56,10 +62,12 @@ or_some (Some x) q h = h
 
 -- a test of the element
 test_law :
-    (bs : List Binding) (passes : Assignment → Type 0) (e d : Element) (b : Bool) → element_eq e d ≡ b
+    (bs : List Binding) (passes : Assignment → Type 0) (e d : Element) (b : Bool)
+    → element_eq e d ≡ b
     → ((t : Assignment) → Extends bs t → passes t → e ≡ d)
     → ((t : Assignment) → Extends bs t → e ≡ d → passes t)
-    → MatchOption (cond b (Some bs) None) ((t : Assignment) → Extends bs t → passes t → ⊥) (Narrows passes bs)
+    → MatchOption (cond b (Some bs) None) ((t : Assignment) → Extends bs t → passes t
+    → ⊥) (Narrows passes bs)
 test_law bs passes e d true h same back = record {
   extends = λ t x. x;
   pass = λ t x. back t x (element_eq-same e d h);
@@ -72,19 +80,30 @@ test_law bs passes e d false h same back = λ t x p.
 -- a new binding, or a test of the old one
 value_law :
     (bs : List Binding) (v : ℕ) (e : Element) (o : Option Element) → value_of bs v ≡ o
-    → MatchOption (bind_value bs v e o) ((t : Assignment) → Extends bs t → t v ≡ e → ⊥) (Narrows (λ t. t v ≡ e) bs)
+    → MatchOption (bind_value bs v e o) ((t : Assignment) → Extends bs t → t v ≡ e
+    → ⊥) (Narrows (λ t. t v ≡ e) bs)
 value_law bs v e (Some d) h =
-    test_law bs (λ t. t v ≡ e) e d (element_eq e d) refl (λ t x p. sym p ∙ x.at v d h) (λ t x s. x.at v d h ∙ sym s)
+    test_law bs (λ t. t v ≡ e) e d (element_eq e d) refl (λ t x p. sym p ∙ x.at v d h) (λ t x s.
+    x.at v d h ∙ sym s)
 value_law bs v e None h =
     let own = record { variable = v; element = e } ∷ [] in
     record {
-      extends = λ t x. record { at = λ w f k. x.at w f (value_of-append bs own w ∙ ap (λ o. or_value o (value_of own w)) k) };
-      pass = λ t x. x.at v e (value_of-append bs own v ∙ (ap (λ o. or_value o (value_of own v)) h ∙ value_of-own v e));
-      back = λ t x p. record { at = λ w f k. new_at t w f (value_of bs w) (v == w) refl refl x p (sym (value_of-append bs own w) ∙ k) };
+      extends = λ t x. record {
+        at =
+            λ w f k. x.at w f (value_of-append bs own w ∙ ap (λ o. or_value o (value_of own w)) k);
+      };
+      pass = λ t x. x.at v e (value_of-append bs own
+          v ∙ (ap (λ o. or_value o (value_of own v)) h ∙ value_of-own v e));
+      back = λ t x p. record {
+        at = λ w f k.
+            new_at t w f (value_of bs w) (v == w) refl refl x p
+            (sym (value_of-append bs own w) ∙ k);
+      };
       keeps = λ w s. rw (value_of-append bs own w) (or_some (value_of bs w) (value_of own w) s);
     } where
       new_at :
-          (t : Assignment) (w : ℕ) (f : Element) (o : Option Element) (b : Bool) → value_of bs w ≡ o → (v == w) ≡ b
+          (t : Assignment) (w : ℕ) (f : Element) (o : Option Element) (b : Bool) → value_of bs w ≡ o
+          → (v == w) ≡ b
           → Extends bs t → t v ≡ e → or_value o (cond b (Some e) None) ≡ Some f → t w ≡ f
       new_at t w f (Some d) b h c x p k = x.at w f (h ∙ k)
       new_at t w f None true h c x p k =
@@ -96,15 +115,19 @@ value_law bs v e None h =
 -- binding a term keeps the substitutions that make it the element
 pub bind_term_law :
     (bs : List Binding) (x : Term) (e : Element)
-    → MatchOption (bind_term bs x e) ((t : Assignment) → Extends bs t → term_at t x ≡ e → ⊥) (Narrows (λ t. term_at t x ≡ e) bs)
+    → MatchOption (bind_term bs x e) ((t : Assignment) → Extends bs t → term_at t x ≡ e
+    → ⊥) (Narrows (λ t. term_at t x ≡ e) bs)
 bind_term_law bs (term.Ind a) e =
-    test_law bs (λ t. element.Ind a ≡ e) e (element.Ind a) (element_eq e (element.Ind a)) refl (λ t x p. sym p) (λ t x s. sym s)
+    test_law bs (λ t. element.Ind a ≡ e) e (element.Ind a) (element_eq e (element.Ind a)) refl
+    (λ t x p. sym p) (λ t x s. sym s)
 bind_term_law bs (term.Var v) e = value_law bs v e (value_of bs v) refl
 
-module _ (passes fits : Assignment → Type 0) (to : (t : Assignment) → passes t → fits t) (from : (t : Assignment) → fits t → passes t) (bs : List Binding) where
+module _ (passes fits : Assignment → Type 0) (to : (t : Assignment) → passes t
+    → fits t) (from : (t : Assignment) → fits t → passes t) (bs : List Binding) where
   -- the same under an equivalent test
   law_by :
-      (o : Option (List Binding)) → MatchOption o ((t : Assignment) → Extends bs t → passes t → ⊥) (Narrows passes bs)
+      (o : Option (List Binding)) → MatchOption o ((t : Assignment) → Extends bs t → passes t
+      → ⊥) (Narrows passes bs)
       → MatchOption o ((t : Assignment) → Extends bs t → fits t → ⊥) (Narrows fits bs)
   law_by None h = λ t x f. h t x (from t f)
   law_by (Some cs) h = record {
@@ -118,7 +141,8 @@ module _ (one two : Assignment → Type 0) (bs : List Binding) where
   second_law :
       (cs : List Binding) (o : Option (List Binding)) → Narrows one bs cs
       → MatchOption o ((t : Assignment) → Extends cs t → two t → ⊥) (Narrows two cs)
-      → MatchOption o ((t : Assignment) → Extends bs t → one t × two t → ⊥) (Narrows (λ t. one t × two t) bs)
+      → MatchOption o ((t : Assignment) → Extends bs t → one t × two t
+      → ⊥) (Narrows (λ t. one t × two t) bs)
   second_law cs None n h = λ t x p. h t (n.back t x p.0) p.1
   second_law cs (Some ds) n h = record {
     extends = λ t x. n.extends t (h.extends t x);
@@ -130,8 +154,10 @@ module _ (one two : Assignment → Type 0) (bs : List Binding) where
   both_law :
       (o : Option (List Binding)) (next : List Binding → Option (List Binding))
       → MatchOption o ((t : Assignment) → Extends bs t → one t → ⊥) (Narrows one bs)
-      → ((cs : List Binding) → MatchOption (next cs) ((t : Assignment) → Extends cs t → two t → ⊥) (Narrows two cs))
-      → MatchOption (option_and_then next o) ((t : Assignment) → Extends bs t → one t × two t → ⊥) (Narrows (λ t. one t × two t) bs)
+      → ((cs : List Binding) → MatchOption (next cs) ((t : Assignment) → Extends cs t → two t
+      → ⊥) (Narrows two cs))
+      → MatchOption (option_and_then next o) ((t : Assignment) → Extends bs t → one t × two t
+      → ⊥) (Narrows (λ t. one t × two t) bs)
   both_law None next h k = λ t x p. h t x p.0
   both_law (Some cs) next h k = second_law cs (next cs) h (k cs)
 
@@ -144,9 +170,11 @@ same_role p q e = ap (λ (n : ℕ). record { 0 = n }) e
 -- where a test fails, nothing passes
 test_first :
     (bs : List Binding) (passes : Assignment → Type 0) (b : Bool) (o : Option (List Binding))
-    → (b ≡ true → MatchOption o ((t : Assignment) → Extends bs t → passes t → ⊥) (Narrows passes bs))
+    → (b ≡ true → MatchOption o ((t : Assignment) → Extends bs t → passes t
+    → ⊥) (Narrows passes bs))
     → (b ≡ false → (t : Assignment) → passes t → ⊥)
-    → MatchOption (cond b o None) ((t : Assignment) → Extends bs t → passes t → ⊥) (Narrows passes bs)
+    → MatchOption (cond b o None) ((t : Assignment) → Extends bs t → passes t
+    → ⊥) (Narrows passes bs)
 test_first bs passes true o kept apart = kept refl
 test_first bs passes false o kept apart = λ t x p. apart refl t p
 
@@ -156,25 +184,31 @@ eqb-own m n e h = let k : (m == n) ≡ true = eq-eqb m n e in cc
 -- binding an atom keeps the substitutions that make it the fact
 pub bind_atom_law :
     (bs : List Binding) (a : Atom) (f : Fact)
-    → MatchOption (bind_atom bs a f) ((t : Assignment) → Extends bs t → atom_at t a ≡ f → ⊥) (Narrows (λ t. atom_at t a ≡ f) bs)
+    → MatchOption (bind_atom bs a f) ((t : Assignment) → Extends bs t → atom_at t a ≡ f
+    → ⊥) (Narrows (λ t. atom_at t a ≡ f) bs)
 bind_atom_law bs (atom.Concept c x) (fact.Concept d e) =
-    test_first bs (λ t. fact.Concept c (term_at t x) ≡ fact.Concept d e) (c.0 == d.0) (bind_term bs x e)
+    test_first bs (λ t. fact.Concept c (term_at t x)
+    ≡ fact.Concept d e) (c.0 == d.0) (bind_term bs x e)
     (λ h. let same : c.0 ≡ d.0 = grind (arith, nat_tests) in
     law_by (λ t. term_at t x ≡ e) (λ t. fact.Concept c (term_at t x) ≡ fact.Concept d e)
-    (λ t k. let g : c ≡ d = same_concept c d same in cc) (λ t k. cc) bs (bind_term bs x e) (bind_term_law bs x e))
+    (λ t k. let g : c ≡ d = same_concept c d same in
+    cc) (λ t k. cc) bs (bind_term bs x e) (bind_term_law bs x e))
     (λ h t k. let g : c ≡ d = cc in eqb-own c.0 d.0 (ap (λ (z : ConceptId). z.0) g) h)
 bind_atom_law bs (atom.Concept c x) (fact.Role q e g) = λ t x k. cc
 bind_atom_law bs (atom.Role p x y) (fact.Concept d e) = λ t x k. cc
 bind_atom_law bs (atom.Role p x y) (fact.Role q e f) =
-    let goal : Assignment → Type 0 = λ t. fact.Role p (term_at t x) (term_at t y) ≡ fact.Role q e f in
+    let goal : Assignment → Type 0 = λ t. fact.Role p (term_at t x) (term_at t y)
+    ≡ fact.Role q e f in
     let both : Assignment → Type 0 = λ t. (term_at t x ≡ e) × (term_at t y ≡ f) in
     test_first bs goal (p.0 == q.0) (option_and_then (λ cs. bind_term cs y f) (bind_term bs x e))
     (λ h. let same : p.0 ≡ q.0 = grind (arith, nat_tests) in
     law_by both goal
-    (λ t k. let g : p ≡ q = same_role p q same in let u : term_at t x ≡ e = k.0 in let v : term_at t y ≡ f = k.1 in cc)
+    (λ t k. let g : p ≡ q = same_role p q same in let u : term_at t x ≡ e = k.0 in
+    let v : term_at t y ≡ f = k.1 in cc)
     (λ t k. let u : term_at t x ≡ e = cc in let v : term_at t y ≡ f = cc in (u, v)) bs
     (option_and_then (λ cs. bind_term cs y f) (bind_term bs x e))
-    (both_law (λ t. term_at t x ≡ e) (λ t. term_at t y ≡ f) bs (bind_term bs x e) (λ cs. bind_term cs y f) (bind_term_law bs x e) (λ cs. bind_term_law cs y f)))
+    (both_law (λ t. term_at t x ≡ e) (λ t. term_at t y ≡ f) bs (bind_term bs x e) (λ cs.
+    bind_term cs y f) (bind_term_law bs x e) (λ cs. bind_term_law cs y f)))
     (λ h t k. let g : p ≡ q = cc in eqb-own p.0 q.0 (ap (λ (z : RoleId). z.0) g) h)
 
 -- what holds of the bindings, if there are any
@@ -186,15 +220,19 @@ module _ (P : List Binding → Type 0) where
   after_test true o h = h
   after_test false o h = tt
 
-  after_first : (o : Option (List Binding)) (next : List Binding → Option (List Binding)) → After o P → ((cs : List Binding) → P cs → After (next cs) P) → After (option_and_then next o) P
+  after_first : (o : Option (List Binding)) (next : List Binding → Option (List Binding))
+      → After o P → ((cs : List Binding) → P cs → After (next cs) P)
+      → After (option_and_then next o) P
   after_first None next h k = tt
   after_first (Some cs) next h k = k cs h
 
-  after_second : (o : Option (List Binding)) (next : List Binding → Option (List Binding)) → ((cs : List Binding) → After (next cs) P) → After (option_and_then next o) P
+  after_second : (o : Option (List Binding)) (next : List Binding → Option (List Binding))
+      → ((cs : List Binding) → After (next cs) P) → After (option_and_then next o) P
   after_second None next k = tt
   after_second (Some cs) next k = k cs
 
-pub IsAssigned-keeps : (passes : Assignment → Type 0) (bs cs : List Binding) (x : Term) → Narrows passes bs cs → IsAssigned bs x → IsAssigned cs x
+pub IsAssigned-keeps : (passes : Assignment → Type 0) (bs cs : List Binding) (x : Term)
+    → Narrows passes bs cs → IsAssigned bs x → IsAssigned cs x
 IsAssigned-keeps passes bs cs (term.Ind a) n h = tt
 IsAssigned-keeps passes bs cs (term.Var v) n h = n.keeps v h
 
@@ -205,29 +243,38 @@ keeps_bound :
 keeps_bound passes bs x None h b = tt
 keeps_bound passes bs x (Some cs) h b = IsAssigned-keeps passes bs cs x h b
 
-value_bound : (bs : List Binding) (v : ℕ) (e : Element) (o : Option Element) → value_of bs v ≡ o → After (bind_value bs v e o) (λ cs. IsAssigned cs (term.Var v))
-value_bound bs v e (Some d) h = after_test (λ cs. IsAssigned cs (term.Var v)) (element_eq e d) (Some bs) (ap is_some h)
+value_bound : (bs : List Binding) (v : ℕ) (e : Element) (o : Option Element) → value_of bs v ≡ o
+    → After (bind_value bs v e o) (λ cs. IsAssigned cs (term.Var v))
+value_bound bs v e (Some d) h =
+    after_test (λ cs. IsAssigned cs (term.Var v)) (element_eq e d) (Some bs) (ap is_some h)
 value_bound bs v e None h =
     let own = record { variable = v; element = e } ∷ [] in
-    ap is_some (value_of-append bs own v ∙ (ap (λ o. or_value o (value_of own v)) h ∙ value_of-own v e))
+    ap is_some (value_of-append bs own v ∙ (ap (λ o.
+    or_value o (value_of own v)) h ∙ value_of-own v e))
 
 -- a term is bound after its binding
-term_bound : (bs : List Binding) (x : Term) (e : Element) → After (bind_term bs x e) (λ cs. IsAssigned cs x)
-term_bound bs (term.Ind a) e = after_test (λ cs. IsAssigned cs (term.Ind a)) (element_eq e (element.Ind a)) (Some bs) tt
+term_bound : (bs : List Binding) (x : Term) (e : Element)
+    → After (bind_term bs x e) (λ cs. IsAssigned cs x)
+term_bound bs (term.Ind a) e =
+    after_test (λ cs. IsAssigned cs (term.Ind a)) (element_eq e (element.Ind a)) (Some bs) tt
 term_bound bs (term.Var v) e = value_bound bs v e (value_of bs v) refl
 
 -- each term of an atom is bound after its binding
-pub atom_bound : (bs : List Binding) (a : Atom) (f : Fact) (x : Term) → HasTerm a x → After (bind_atom bs a f) (λ cs. IsAssigned cs x)
+pub atom_bound : (bs : List Binding) (a : Atom) (f : Fact) (x : Term) → HasTerm a x
+    → After (bind_atom bs a f) (λ cs. IsAssigned cs x)
 atom_bound bs (atom.Concept c y) (fact.Concept d e) x h =
-    after_test (λ cs. IsAssigned cs x) (c.0 == d.0) (bind_term bs y e) (subst (λ z. After (bind_term bs y e) (λ cs. IsAssigned cs z)) h (term_bound bs y e))
+    after_test (λ cs. IsAssigned cs x) (c.0 == d.0) (bind_term bs y e)
+    (subst (λ z. After (bind_term bs y e) (λ cs. IsAssigned cs z)) h (term_bound bs y e))
 atom_bound bs (atom.Concept c y) (fact.Role q e f) x h = tt
 atom_bound bs (atom.Role p y z) (fact.Concept d e) x h = tt
 atom_bound bs (atom.Role p y z) (fact.Role q e f) x (inl h) =
-    after_test (λ cs. IsAssigned cs x) (p.0 == q.0) (option_and_then (λ cs. bind_term cs z f) (bind_term bs y e))
+    after_test (λ cs. IsAssigned cs x) (p.0 == q.0)
+    (option_and_then (λ cs. bind_term cs z f) (bind_term bs y e))
     (after_first (λ cs. IsAssigned cs x) (bind_term bs y e) (λ cs. bind_term cs z f)
     (subst (λ u. After (bind_term bs y e) (λ cs. IsAssigned cs u)) h (term_bound bs y e))
     (λ cs b. keeps_bound (λ t. term_at t z ≡ f) cs x (bind_term cs z f) (bind_term_law cs z f) b))
 atom_bound bs (atom.Role p y z) (fact.Role q e f) x (inr h) =
-    after_test (λ cs. IsAssigned cs x) (p.0 == q.0) (option_and_then (λ cs. bind_term cs z f) (bind_term bs y e))
+    after_test (λ cs. IsAssigned cs x) (p.0 == q.0)
+    (option_and_then (λ cs. bind_term cs z f) (bind_term bs y e))
     (after_second (λ cs. IsAssigned cs x) (bind_term bs y e) (λ cs. bind_term cs z f)
     (λ cs. subst (λ u. After (bind_term cs z f) (λ ds. IsAssigned ds u)) h (term_bound cs z f)))

@@ -18,7 +18,8 @@ HasPredicateOf (atom.Role p x y) (fact.Role r e e') = p ≡ r
 
 -- both lists have the same facts of the atoms' predicates
 abbrev pub AgreeOn : List Atom → List Fact → List Fact → Type 0
-AgreeOn body facts other = (a : Atom) (f : Fact) → Contains body a → HasPredicateOf a f → Contains facts f ↔ Contains other f
+AgreeOn body facts other = (a : Atom) (f : Fact) → Contains body a → HasPredicateOf a f
+    → Contains facts f ↔ Contains other f
 
 -- and of the predicates of each member
 abbrev pub AgreeOnUnion : List Cq → List Fact → List Fact → Type 0
@@ -26,4 +27,5 @@ AgreeOnUnion union facts other = (q : Cq) → Contains union q → AgreeOn q.bod
 
 -- then the union has the same answers in both
 abbrev pub AnswersAreAlike : Type 0
-AnswersAreAlike = (union : List Cq) (facts other : List Fact) (row : List IndId) → AgreeOnUnion union facts other → IsUnionAnswer facts union row ↔ IsUnionAnswer other union row
+AnswersAreAlike = (union : List Cq) (facts other : List Fact) (row : List IndId)
+    → AgreeOnUnion union facts other → IsUnionAnswer facts union row ↔ IsUnionAnswer other union row

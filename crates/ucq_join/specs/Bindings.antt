@@ -1,5 +1,6 @@
 -- Partial assignments: lists of bindings, of which a variable's first counts.
-use Rattle.std.specs.Prelude.{◌≡◌, ℕ, List, [], ◌∷◌, ◌++◌, ◌==◌, Option, Some, None, IsSome, if◌then◌else◌}
+use Rattle.std.specs.Prelude.{◌≡◌, ℕ, List, [], ◌∷◌, ◌++◌, ◌==◌, Option, Some, None, IsSome}
+use Rattle.std.specs.Prelude.{if◌then◌else◌}
 use Rattle.std.specs.Option.{option_and_then}
 use Rattle.dl_syntax.specs.declared.facts.Element.{Element}
 use Rattle.dl_syntax.specs.declared.facts.Element.TheVariants as element
@@ -33,7 +34,8 @@ abbrev pub bind_atom : List Binding → Atom → Fact → Option (List Binding)
 bind_atom bs (atom.Concept c x) (fact.Concept d e) = if c.0 == d.0 then bind_term bs x e else None
 bind_atom bs (atom.Concept c x) (fact.Role q e f) = None
 bind_atom bs (atom.Role p x y) (fact.Concept d e) = None
-bind_atom bs (atom.Role p x y) (fact.Role q e f) = if p.0 == q.0 then option_and_then (λ cs. bind_term cs y f) (bind_term bs x e) else None
+bind_atom bs (atom.Role p x y) (fact.Role q e f) =
+    if p.0 == q.0 then option_and_then (λ cs. bind_term cs y f) (bind_term bs x e) else None
 
 -- the element that a term is bound to
 abbrev pub element_of : List Binding → Term → Option Element

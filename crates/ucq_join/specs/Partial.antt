@@ -28,15 +28,20 @@ HeadBecomes head t row = map (term_at t) head ≡ map element.Ind row
 
 -- some match that extends the bindings sends the head to the row
 abbrev pub IsAnswerFrom : List Fact → List Term → List Atom → List Binding → List IndId → Type 0
-IsAnswerFrom facts head body bs row = (t : Assignment) × Extends bs t × Match body facts t × HeadBecomes head t row
+IsAnswerFrom facts head body bs row = (t : Assignment) × Extends bs t × Match body facts t
+    × HeadBecomes head t row
 
 -- and sends the first atom to this fact
-abbrev pub IsAnswerAt : List Fact → List Term → Atom → List Atom → List Binding → Fact → List IndId → Type 0
-IsAnswerAt facts head a rest bs f row = (t : Assignment) × Extends bs t × (atom_at t a ≡ f) × Match rest facts t × HeadBecomes head t row
+abbrev pub IsAnswerAt : List Fact → List Term → Atom → List Atom → List Binding → Fact → List IndId
+    → Type 0
+IsAnswerAt facts head a rest bs f row = (t : Assignment) × Extends bs t × (atom_at t a ≡ f)
+    × Match rest facts t × HeadBecomes head t row
 
 -- or to one of these facts
-abbrev pub IsAnswerAmong : List Fact → List Term → Atom → List Atom → List Binding → List Fact → List IndId → Type 0
-IsAnswerAmong facts head a rest bs fs row = (f : Fact) × Contains fs f × IsAnswerAt facts head a rest bs f row
+abbrev pub IsAnswerAmong : List Fact → List Term → Atom → List Atom → List Binding → List Fact
+    → List IndId → Type 0
+IsAnswerAmong facts head a rest bs fs row = (f : Fact) × Contains fs f
+    × IsAnswerAt facts head a rest bs f row
 
 -- some match extends the bindings
 abbrev pub HasMatch : List Fact → List Atom → List Binding → Type 0
@@ -44,7 +49,8 @@ HasMatch facts body bs = (t : Assignment) × Extends bs t × Match body facts t
 
 -- and sends an atom to this fact
 abbrev pub HasMatchAt : List Fact → Atom → List Atom → List Binding → Fact → Type 0
-HasMatchAt facts a rest bs f = (t : Assignment) × Extends bs t × (atom_at t a ≡ f) × Match rest facts t
+HasMatchAt facts a rest bs f = (t : Assignment) × Extends bs t × (atom_at t a ≡ f)
+    × Match rest facts t
 
 -- or to one of these
 abbrev pub HasMatchAmong : List Fact → Atom → List Atom → List Binding → List Fact → Type 0
@@ -52,7 +58,8 @@ HasMatchAmong facts a rest bs fs = (f : Fact) × Contains fs f × HasMatchAt fac
 
 -- among fs are all of the facts that the atom can become
 abbrev pub IsComplete : List Binding → Atom → List Fact → List Fact → Type 0
-IsComplete bs a facts fs = (t : Assignment) → Extends bs t → Contains facts (atom_at t a) → Contains fs (atom_at t a)
+IsComplete bs a facts fs = (t : Assignment) → Extends bs t → Contains facts (atom_at t a)
+    → Contains fs (atom_at t a)
 
 -- the individual of a value
 abbrev pub place_in : Option Element → Option IndId

@@ -23,8 +23,11 @@ pub record AddsTerms (a : Atom) (old new : List Term) : Type 0 where
   pub added : (x : Term) → HasTerm a x → Contains new x
   pub only : (x : Term) → Contains new x → Contains old x ⊎ HasTerm a x
 
--- the atoms are those taken and the rest, which has no variable of the terms or of an atom that is taken
+-- the atoms are those taken and the rest, which has no variable of the terms or of an atom that is
+-- taken
 pub record IsSplit (terms : List Term) (atoms taken rest : List Atom) : Type 0 where
   pub members : (a : Atom) → Contains atoms a ↔ (Contains taken a ⊎ Contains rest a)
-  pub apart_from_terms : (a : Atom) (v : ℕ) → Contains rest a → HasTerm a (term.Var v) → Contains terms (term.Var v) → ⊥
-  pub apart : (a b : Atom) (v : ℕ) → Contains rest a → HasTerm a (term.Var v) → Contains taken b → HasTerm b (term.Var v) → ⊥
+  pub apart_from_terms : (a : Atom) (v : ℕ) → Contains rest a → HasTerm a (term.Var v)
+      → Contains terms (term.Var v) → ⊥
+  pub apart : (a b : Atom) (v : ℕ) → Contains rest a → HasTerm a (term.Var v) → Contains taken b
+      → HasTerm b (term.Var v) → ⊥

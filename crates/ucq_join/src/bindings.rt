@@ -1,4 +1,4 @@
-// The elements that variables are bound to.
+//! The elements that variables are bound to.
 
 ghost use Rattle.std.specs.Prelude.{◌≡◌, IfOk, None, Some, vec_len, take};
 ghost use Rattle.std.specs.Bool.{OnTrue, OnFalse};
@@ -28,7 +28,9 @@ pub fn value_of(bindings: &[Binding], variable: u16) -> Option<Element>
 
 /// Binds a term to an element, where that fits.
 pub fn bind_term(bindings: &mut Vec<Binding>, term: Term, element: Element) -> Result<bool, Memory>
-    ensures bound { IfOk result (λ fits. OnTrue fits (bind_term bindings.old.items term element ≡ Some bindings.new.items) × OnFalse fits (bind_term bindings.old.items term element ≡ None)) }
+    ensures bound { IfOk result (λ fits.
+        OnTrue fits (bind_term bindings.old.items term element ≡ Some bindings.new.items)
+        × OnFalse fits (bind_term bindings.old.items term element ≡ None)) }
     ensures kept { take (vec_len bindings.old) bindings.new.items ≡ bindings.old.items }
 {
     match term {
@@ -45,7 +47,9 @@ pub fn bind_term(bindings: &mut Vec<Binding>, term: Term, element: Element) -> R
 
 /// Binds an atom's terms so that it becomes the fact, where that fits.
 pub fn bind_atom(bindings: &mut Vec<Binding>, atom: Atom, fact: Fact) -> Result<bool, Memory>
-    ensures bound { IfOk result (λ fits. OnTrue fits (bind_atom bindings.old.items atom fact ≡ Some bindings.new.items) × OnFalse fits (bind_atom bindings.old.items atom fact ≡ None)) }
+    ensures bound { IfOk result (λ fits.
+        OnTrue fits (bind_atom bindings.old.items atom fact ≡ Some bindings.new.items)
+        × OnFalse fits (bind_atom bindings.old.items atom fact ≡ None)) }
     ensures kept { take (vec_len bindings.old) bindings.new.items ≡ bindings.old.items }
 {
     match (atom, fact) {

@@ -1,5 +1,8 @@
-// The join: an atom is bound to the facts that have its bound places, and once the head is bound a single match of the rest is sought.
-ghost use Rattle.std.specs.Prelude.{◌≡◌, ◌↔◌, ◌∷◌, ◌<◌, length, IfOk, OnOk, IsTrue, List, Contains, [], ◌≤◌};
+//! The join: an atom is bound to the facts that have its bound places, and once the head is bound a
+//! single match of the rest is sought.
+
+ghost use Rattle.std.specs.Prelude.{◌≡◌, ◌↔◌, ◌∷◌, ◌<◌, length, IfOk, OnOk, IsTrue, List, Contains};
+ghost use Rattle.std.specs.Prelude.{[], ◌≤◌};
 ghost use Rattle.std.specs.List.{All, AllByRecursion};
 ghost use Rattle.std.specs.List.Sorted.{IsPermutation};
 ghost use Rattle.dl_syntax.specs.declared.facts.Fact.{Fact};
@@ -10,7 +13,8 @@ ghost use Rattle.dl_syntax.specs.Match.{Assignment, Match, atom_at};
 ghost use Rattle.ucq_join.specs.Bindings.{element_of, IsAssigned};
 ghost use Rattle.ucq_join.specs.Answers.{IsUnionAnswer};
 ghost use Rattle.ucq_join.specs.Gathered.{AddsRows};
-ghost use Rattle.ucq_join.specs.Partial.{HeadIsCovered, IsAnswerFrom, IsAnswerAt, HasMatch, HasMatchAt, IsComplete};
+ghost use Rattle.ucq_join.specs.Partial.{HeadIsCovered, IsAnswerFrom, IsAnswerAt, HasMatch};
+ghost use Rattle.ucq_join.specs.Partial.{HasMatchAt, IsComplete};
 
 use crate::bindings::{Binding, bind_atom, value_of};
 use crate::gathered::{Rows, write_row};
@@ -54,7 +58,8 @@ fn candidates<'a>(index: &'a Index, atom: Atom, bindings: &[Binding]) -> &'a [Fa
 #[cycle(witness)]
 pub fn has_match(index: &Index, body: &[Atom], bindings: &mut Vec<Binding>) -> Result<bool, Memory>
     ensures bindings { OnOk result (bindings.new.items ≡ bindings.old.items) }
-    ensures found { IfOk result (λ found. IsTrue found ↔ HasMatch index.now body.now bindings.old.items) }
+    ensures found { IfOk result (λ found. IsTrue found
+        ↔ HasMatch index.now body.now bindings.old.items) }
 {
     let Some((atom, rest)) = body.split_first() else {
         return Ok(true);
@@ -77,7 +82,8 @@ fn has_match_at(
     bindings: &mut Vec<Binding>,
 ) -> Result<bool, Memory>
     ensures bindings { OnOk result (bindings.new.items ≡ bindings.old.items) }
-    ensures found { IfOk result (λ found. IsTrue found ↔ HasMatchAt index.now atom rest.now bindings.old.items fact) }
+    ensures found { IfOk result (λ found. IsTrue found
+        ↔ HasMatchAt index.now atom rest.now bindings.old.items fact) }
 {
     let bound = bindings.len();
     let mut found = false;
@@ -112,7 +118,8 @@ fn add_witnessed(
     requires bound { AllByRecursion (IsAssigned bindings.old.items) head.now }
     requires wide { length head.now ≡ rows.old.arity }
     ensures bindings { OnOk result (bindings.new.items ≡ bindings.old.items) }
-    ensures rows { OnOk result (AddsRows rows.old rows.new (IsAnswerFrom index.now head.now body.now bindings.old.items)) }
+    ensures rows { OnOk result (AddsRows rows.old rows.new
+        (IsAnswerFrom index.now head.now body.now bindings.old.items)) }
 {
     if !write_row(bindings.as_slice(), head, places)? {
         return Ok(());
@@ -136,7 +143,8 @@ fn extend(
     requires covered { HeadIsCovered bindings.old.items body.now head.now }
     requires wide { length head.now ≡ rows.old.arity }
     ensures bindings { OnOk result (bindings.new.items ≡ bindings.old.items) }
-    ensures rows { OnOk result (AddsRows rows.old rows.new (IsAnswerFrom index.now head.now body.now bindings.old.items)) }
+    ensures rows { OnOk result (AddsRows rows.old rows.new
+        (IsAnswerFrom index.now head.now body.now bindings.old.items)) }
 {
     if is_assigned(bindings.as_slice(), head) {
         return add_witnessed(index, head, body, bindings, places, rows);
@@ -165,7 +173,8 @@ fn extend_at(
     requires covered { HeadIsCovered bindings.old.items (atom ∷ rest.now) head.now }
     requires wide { length head.now ≡ rows.old.arity }
     ensures bindings { OnOk result (bindings.new.items ≡ bindings.old.items) }
-    ensures rows { OnOk result (AddsRows rows.old rows.new (IsAnswerAt index.now head.now atom rest.now bindings.old.items fact)) }
+    ensures rows { OnOk result (AddsRows rows.old rows.new
+        (IsAnswerAt index.now head.now atom rest.now bindings.old.items fact)) }
 {
     let bound = bindings.len();
     if bind_atom(bindings, atom, fact)? {
@@ -270,7 +279,8 @@ fn add_ordered(
 ) -> Result<(), Memory>
     requires covered { HeadIsCovered [] body.now head.now }
     requires wide { length head.now ≡ rows.old.arity }
-    ensures { OnOk result (AddsRows rows.old rows.new (IsAnswerFrom index.now head.now body.now [])) }
+    ensures { OnOk result (AddsRows rows.old rows.new
+        (IsAnswerFrom index.now head.now body.now [])) }
 {
     let body = ordered(alloc, index, body)?;
     let mut bindings = Vec::new(alloc);
@@ -285,11 +295,13 @@ fn add_ordered(
     )
 }
 
-// Adds the answers of a query. What shares no variable with the head is matched once, ahead of the rest.
+// Adds the answers of a query. What shares no variable with the head is matched once, ahead of the
+// rest.
 fn add_answers(alloc: Global, index: &Index, query: &Cq, rows: &mut Rows) -> Result<(), Memory>
     requires query { IsQuery query.now }
     requires wide { length query.now.head ≡ rows.old.arity }
-    ensures { OnOk result (AddsRows rows.old rows.new (IsAnswerFrom index.now query.now.head query.now.body [])) }
+    ensures { OnOk result (AddsRows rows.old rows.new
+        (IsAnswerFrom index.now query.now.head query.now.body [])) }
 {
     if lacks_facts(index, query.body.as_slice()) {
         return Ok(());
@@ -302,13 +314,16 @@ fn add_answers(alloc: Global, index: &Index, query: &Cq, rows: &mut Rows) -> Res
     add_ordered(alloc, index, query.head.as_slice(), joined.as_slice(), rows)
 }
 
-/// The answers of a union of conjunctive queries, whose heads have as many terms as the arity: exactly the rows to which some match of a member's body in the facts sends its head, in rising order.
+/// The answers of a union of conjunctive queries, whose heads have as many terms as the arity:
+/// exactly the rows to which some match of a member's body in the facts sends its head, in rising
+/// order.
 pub fn answers(alloc: Global, index: &Index, arity: u8, union: &[Cq]) -> Result<Tuples, Memory>
     requires queries { All IsQuery union.now }
     requires heads { All (λ q. length q.head ≡ arity) union.now }
     ensures arity { IfOk result (λ rows. rows.arity ≡ arity) }
     ensures rising { IfOk result (λ rows. IsRising rows.rows) }
-    ensures rows { IfOk result (λ rows. (row : List IndId) → Contains rows.rows row ↔ IsUnionAnswer index.now union.now row) }
+    ensures rows { IfOk result (λ rows. (row : List IndId)
+        → Contains rows.rows row ↔ IsUnionAnswer index.now union.now row) }
 {
     let mut rows = Rows::new(alloc, arity);
     for query in union {

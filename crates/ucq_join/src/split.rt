@@ -1,5 +1,7 @@
-// Parts of a body that share no variable: each is matched by itself.
-ghost use Rattle.std.specs.Prelude.{◌≡◌, ◌≤◌, ◌<◌, ◌↔◌, ◌∷◌, [], Contains, length, IfOk, OnOk, IsTrue, MatchOption};
+//! Parts of a body that share no variable: each is matched by itself.
+
+ghost use Rattle.std.specs.Prelude.{◌≡◌, ◌≤◌, ◌<◌, ◌↔◌, ◌∷◌, [], Contains, length, IfOk, OnOk};
+ghost use Rattle.std.specs.Prelude.{IsTrue, MatchOption};
 ghost use Rattle.std.specs.Bool.{OnTrue, OnFalse};
 ghost use Rattle.dl_syntax.specs.declared.queries.Atom.{Atom};
 ghost use Rattle.dl_syntax.specs.declared.queries.Term.{Term};
@@ -46,7 +48,8 @@ fn touches(known: &[Term], atom: &Atom) -> bool
 
 // The place of an atom that has one of the variables.
 fn touching(known: &[Term], atoms: &[Atom]) -> Option<usize>
-    ensures { MatchOption result ((a : Atom) → Contains atoms.now a → Touches known.now a → ⊥) (λ place. place < length atoms.now) }
+    ensures { MatchOption result ((a : Atom) → Contains atoms.now a → Touches known.now a
+        → ⊥) (λ place. place < length atoms.now) }
 {
     for (place, atom) in atoms.iter().enumerate() {
         if touches(known, atom) {
@@ -70,9 +73,11 @@ fn push_terms(known: &mut Vec<Term>, atom: Atom) -> Result<(), Memory>
     Ok(())
 }
 
-/// Takes out of the rest the atoms that share a variable with the terms, at once or by way of others.
+/// Takes out of the rest the atoms that share a variable with the terms, at once or by way of
+/// others.
 pub fn take_joined(alloc: Global, terms: &[Term], rest: &mut Vec<Atom>) -> Result<Vec<Atom>, Memory>
-    ensures split { IfOk result (λ taken. IsSplit terms.now rest.old.items taken.items rest.new.items) }
+    ensures split { IfOk result (λ taken.
+        IsSplit terms.now rest.old.items taken.items rest.new.items) }
     ensures shorter { OnOk result (length rest.new.items ≤ length rest.old.items) }
 {
     let mut known = Vec::from_slice(alloc, terms)?;
@@ -85,9 +90,13 @@ pub fn take_joined(alloc: Global, terms: &[Term], rest: &mut Vec<Atom>) -> Resul
     Ok(taken)
 }
 
-// Whether an atom has a match together with those that it shares variables with, which are taken out of the rest.
+// Whether an atom has a match together with those that it shares variables with, which are taken
+// out of the rest.
 fn has_part(alloc: Global, index: &Index, atom: Atom, rest: &mut Vec<Atom>) -> Result<bool, Memory>
-    ensures found { IfOk result (λ found. OnTrue found (HasMatch index.now (atom ∷ rest.old.items) [] ↔ HasMatch index.now rest.new.items []) × OnFalse found (HasMatch index.now (atom ∷ rest.old.items) [] → ⊥)) }
+    ensures found { IfOk result (λ found.
+        OnTrue found (HasMatch index.now (atom ∷ rest.old.items) []
+        ↔ HasMatch index.now rest.new.items [])
+        × OnFalse found (HasMatch index.now (atom ∷ rest.old.items) [] → ⊥)) }
     ensures shorter { OnOk result (length rest.new.items ≤ length rest.old.items) }
 {
     let mut terms = Vec::new(alloc);

@@ -1,3 +1,5 @@
+//! Tests of the public calls, and the worked examples.
+
 ghost use Rattle.std.specs.Prelude.{◌≡◌, ◌≢◌, IfOk, ◌∷◌, []};
 ghost use Rattle.std.specs.List.{All};
 ghost use Rattle.dl_syntax.specs.Facts.{HasNoNull};

@@ -1,5 +1,6 @@
 -- What finitely many steps lead to.
-use Rattle.std.specs.Prelude.{◌≡◌, ◌≢◌, ℕ, suc, zero, ◌<◌, ◌++◌, List, Contains, All, length, Some, slice_get, Bool}
+use Rattle.std.specs.Prelude.{◌≡◌, ◌≢◌, ℕ, suc, zero, ◌<◌, ◌++◌, List, Contains, All, length, Some}
+use Rattle.std.specs.Prelude.{slice_get, Bool}
 use Rattle.std.specs.Bool.{Decides}
 use Rattle.std.specs.List.{AllPairs}
 
@@ -53,4 +54,5 @@ module _ {S : Type 0} (step : S → S → Type 0) where
 
   -- all that one step leads to from the value at the place is found
   abbrev pub IsDone : List S → ℕ → Type 0
-  IsDone found place = (x : S) → slice_get found place ≡ Some x → (y : S) → step x y → Contains found y
+  IsDone found place = (x : S) → slice_get found place ≡ Some x → (y : S) → step x y
+      → Contains found y

@@ -1,9 +1,12 @@
-//! The values that finitely many steps of a transition lead to from one value, up to a limit, and lists by number, as of what a step leads to.
+//! The values that finitely many steps of a transition lead to from one value, up to a limit, and
+//! lists by number, as of what a step leads to.
 #![tactic(auto)]
 
-ghost use Rattle.std.specs.Prelude.{◌≡◌, ◌++◌, [], ◌<◌, ◌≤◌, List, All, Contains, length, IfOk, OnOk};
+ghost use Rattle.std.specs.Prelude.{◌≡◌, ◌++◌, [], ◌<◌, ◌≤◌, List, All, Contains, length, IfOk};
+ghost use Rattle.std.specs.Prelude.{OnOk};
 ghost use Rattle.indexmap.specs.IndexSet.{index_set_len, IsUnique};
-ghost use Rattle.worklist.specs.Reach.{IsExact, IsClosure, Reaches, ReachesMore, Grows, Expands, IsDone};
+ghost use Rattle.worklist.specs.Reach.{IsExact, IsClosure, Reaches, ReachesMore, Grows, Expands};
+ghost use Rattle.worklist.specs.Reach.{IsDone};
 
 mod lists;
 
@@ -109,9 +112,11 @@ fn expand<S: Eq + Hash + Drop, T: Transition<S>>(
     absorb(found, items, room)
 }
 
-/// Exactly what is reachable from the start, each value once. `TooMany` comes exactly where more than `room` values are reachable.
+/// Exactly what is reachable from the start, each value once. `TooMany` comes exactly where more
+/// than `room` values are reachable.
 ///
-/// The set is both what was visited and the queue: a value's place says whether its steps were taken.
+/// The set is both what was visited and the queue: a value's place says whether its steps were
+/// taken.
 pub fn closure<S: Eq + Hash + Drop, T: Transition<S>>(
     alloc: Global,
     transition: &T,
@@ -123,7 +128,8 @@ pub fn closure<S: Eq + Hash + Drop, T: Transition<S>>(
     ensures found { IfOk result (λ found. IsClosure (T.step transition.now) start found.keys) }
     ensures few { IfOk result (λ found. index_set_len found ≤ room) }
     ensures not_more { IfOk result (λ _. ReachesMore (T.step transition.now) start room → ⊥) }
-    ensures many { result ≡ Err ClosureFault.TooMany → ReachesMore (T.step transition.now) start room }
+    ensures many { result ≡ Err ClosureFault.TooMany
+        → ReachesMore (T.step transition.now) start room }
 {
     if room == 0 {
         return Err(ClosureFault::TooMany);

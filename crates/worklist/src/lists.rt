@@ -1,5 +1,7 @@
-// Lists by number.
-ghost use Rattle.std.specs.Prelude.{◌≡◌, ◌==◌, ◌<◌, ◌^◌, ◌++◌, ◌∷◌, [], ℕ, length, OnOk, if◌then◌else◌};
+//! Lists by number.
+
+ghost use Rattle.std.specs.Prelude.{◌≡◌, ◌==◌, ◌<◌, ◌^◌, ◌++◌, ◌∷◌, [], ℕ, length, OnOk};
+ghost use Rattle.std.specs.Prelude.{if◌then◌else◌};
 ghost use Rattle.worklist.specs.Lists.{listed};
 
 use std::alloc::{AllocError, Global};
@@ -24,7 +26,10 @@ pub fn add_at<T: Drop>(
     number: u32,
     item: T,
 ) -> Result<(), AllocError>
-    ensures { OnOk result ((k : ℕ) → listed lists.new.items k ≡ (if k == number then listed lists.old.items k ++ item ∷ [] else listed lists.old.items k)) }
+    ensures { OnOk result ((k : ℕ)
+        → listed lists.new.items k
+        ≡ (if k == number then listed lists.old.items k
+        ++ item ∷ [] else listed lists.old.items k)) }
 {
     let place = number as usize;
     reserve(alloc, lists, place)?;

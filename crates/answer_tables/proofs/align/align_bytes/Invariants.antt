@@ -6,7 +6,8 @@ use Rattle.answer_tables.proofs.align.align_bytes.Given as goal
 
 abbrev pub invariant-loop-i : goal.invariant-loop-i
 invariant-loop-i l = record {
-  aligning : Aligning (unit_runs 0 l.a) (unit_runs 0 l.b) (unit_runs 0 l.bytes.items) l.coding.joints.items l.i l.i l.i;
+  aligning : Aligning (unit_runs 0 l.a) (unit_runs 0 l.b) (unit_runs 0 l.bytes.items)
+      l.coding.joints.items l.i l.i l.i;
   many : length l.bytes.items ≡ l.i;
   coding : IsCoding l.coding.joints.items l.coding.codes.items l.coding.width;
 }

@@ -5,7 +5,13 @@ use Rattle.formula_store.proofs.Lists.{Contains-interned}
 use Rattle.answer_tables.proofs.combine.combined_link.Goals as goal
 
 pub returns-in-Or-clause-stored : goal.returns-in-Or-clause-stored
-returns-in-Or-clause-stored c = IfOk-weaker c.either.result _ _ (λ (l : List ℕ) is. subst (λ (chains : List (List ℕ)). Contains chains l) (sym is) (Contains-interned c.args.store.now l)) c.either.ensures.ok
+returns-in-Or-clause-stored c =
+    IfOk-weaker c.either.result _ _ (λ (l : List ℕ) is.
+    subst (λ (antichains : List (List ℕ)). Contains antichains l) (sym is)
+    (Contains-interned c.args.store.now l)) c.either.ensures.ok
 
 pub returns-in-And-clause-stored : goal.returns-in-And-clause-stored
-returns-in-And-clause-stored c = IfOk-weaker c.both.result _ _ (λ (l : List ℕ) is. subst (λ (chains : List (List ℕ)). Contains chains l) (sym is) (Contains-interned c.args.store.now l)) c.both.ensures.ok
+returns-in-And-clause-stored c =
+    IfOk-weaker c.both.result _ _ (λ (l : List ℕ) is.
+    subst (λ (antichains : List (List ℕ)). Contains antichains l) (sym is)
+    (Contains-interned c.args.store.now l)) c.both.ensures.ok

@@ -8,10 +8,14 @@ loop-rank-init c = Listed-none c.args.slots c.args.start c.args.rows.now c.requi
 
 pub loop-rank-preserved : goal.loop-rank-preserved
 loop-rank-preserved c =
-    Listed-more c.args.slots c.args.start c.loop-rank.rank (c.loop-rank.rank + 1) c.args.rows.now c.loop-rank.rows c.push_tuple.new.rows c.loop-rank.auto.rank (omega arith) c.loop-rank.invariant c.in_ok-push_tuple.ensures
+    Listed-more c.args.slots c.args.start c.loop-rank.rank (c.loop-rank.rank + 1) c.args.rows.now
+    c.loop-rank.rows c.push_tuple.new.rows c.loop-rank.auto.rank (omega arith)
+    c.loop-rank.invariant c.in_ok-push_tuple.ensures
 
 pub returns : goal.returns
 returns c =
     let past = c.loop-rank-test.false in
-    let done : c.loop-rank.rank ≡ c.args.end = omega (arith, past, c.loop-rank.auto.rank-end, c.requires.order) in
-    subst (λ (k : ℕ). Listed c.args.slots c.args.rows.now c.args.start k c.loop-rank.rows) done c.loop-rank.invariant
+    let done : c.loop-rank.rank ≡ c.args.end =
+    omega (arith, past, c.loop-rank.auto.rank-end, c.requires.order) in
+    subst (λ (k : ℕ). Listed c.args.slots c.args.rows.now c.args.start k c.loop-rank.rows) done
+    c.loop-rank.invariant

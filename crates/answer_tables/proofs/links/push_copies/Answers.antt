@@ -1,4 +1,5 @@
-use Rattle.std.proofs.Common.{◌≡◌, ◌++◌, ◌∷◌, [], ℕ, List, replicate, sym, ◌∙◌, ap, arith, append_assoc}
+use Rattle.std.proofs.Common.{◌≡◌, ◌++◌, ◌∷◌, [], ℕ, List, replicate, sym, ◌∙◌, ap, arith}
+use Rattle.std.proofs.Common.{append_assoc}
 use Rattle.std.proofs.lemmas.List.{replicate-append-replicate, append-nil}
 use Rattle.answer_tables.proofs.links.push_copies.Goals as goal
 
@@ -10,8 +11,11 @@ loop-preserved c =
     let old = c.args.links.now.items in
     let k = c.loop.counter in
     let x = c.args.link.now in
-    c.in_ok-push.ensures.items ∙ ap (λ (xs : List (List ℕ)). xs ++ c.in_ok-copy.field-0 ∷ []) c.loop.invariant ∙ ap (λ (y : List ℕ). (old ++ replicate k x) ++ y ∷ []) c.in_ok-copy.ensures
-    ∙ append_assoc old (replicate k x) (x ∷ []) ∙ ap (λ (xs : List (List ℕ)). old ++ xs) (replicate-append-replicate k 1 x)
+    c.in_ok-push.ensures.items ∙ ap (λ (xs : List (List ℕ)).
+    xs ++ c.in_ok-copy.field-0 ∷ []) c.loop.invariant ∙ ap (λ (y : List ℕ).
+    (old ++ replicate k x) ++ y ∷ []) c.in_ok-copy.ensures
+    ∙ append_assoc old (replicate k x) (x ∷ []) ∙ ap (λ (xs : List (List ℕ)).
+    old ++ xs) (replicate-append-replicate k 1 x)
 
 pub returns : goal.returns
 returns c =

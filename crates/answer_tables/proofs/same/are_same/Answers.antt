@@ -4,4 +4,5 @@ use Rattle.answer_tables.proofs.same.are_same.Goals as goal
 
 pub returns : goal.returns
 returns c =
-    λ _. same_lists c.args.a.now c.args.b.now c.if-a-b.false (λ k d within. c.loop-i.invariant k d (omega (arith, c.loop-i-test.false, within)))
+    λ _. same_lists c.args.a.now c.args.b.now c.if-a-b.false (λ k d within.
+    c.loop-i.invariant k d (omega (arith, c.loop-i-test.false, within)))

@@ -1,7 +1,8 @@
 use Rattle.std.proofs.Common.{ℕ, ◌≡◌, ◌<◌}
 use Rattle.std.specs.Prelude.{slice_index_or}
-use Rattle.answer_tables.specs.Table.{Chains}
+use Rattle.answer_tables.specs.Table.{Antichains}
 use Rattle.answer_tables.proofs.same.are_same.Given as goal
 
 abbrev pub invariant-loop-i : goal.invariant-loop-i
-invariant-loop-i l = (k : ℕ) (d : Chains) → k < l.i → slice_index_or l.a k d ≡ slice_index_or l.b k d
+invariant-loop-i l = (k : ℕ) (d : Antichains) → k < l.i
+    → slice_index_or l.a k d ≡ slice_index_or l.b k d

@@ -9,7 +9,8 @@ decreases-spread l = l.arity
 abbrev pub invariant-loop-digit : goal.invariant-loop-digit
 invariant-loop-digit l = record {
   within : l.digit ≤ l.slots;
-  so : Spreading l.runs (slice_index l.weights 0) (drop 1 l.weights) l.slots l.limit l.old l.start l.fn.new.items l.new.items l.digit;
+  so : Spreading l.runs (slice_index l.weights 0) (drop 1 l.weights) l.slots l.limit l.old l.start
+      l.fn.new.items l.new.items l.digit;
 }
 
 abbrev pub decreases-loop-digit : goal.decreases-loop-digit

@@ -10,6 +10,10 @@ returns-clause-stored c =
     let arity = c.table.inside.arity in
     let links = c.in_ok-links.links.items in
     let runs = c.table.inside.ranks.value in
-    let many = ap (λ (xs : List (List ℕ)). length xs) (c.in_ok-links.ensures.same ∙ c.as_slice.ensures.value) in
-    let are : AreRuns slots arity links runs = AreRuns-other slots arity c.table.inside.links.items links runs c.table.invariant many in
-    links_are_in slots arity links c.in_ok-ranks.ranks.value c.stored_links.new.store (subst (AreRuns slots arity links) (sym c.in_ok-ranks.ensures) are) c.in_ok-links.ensures.stored
+    let many = ap (λ (xs : List (List ℕ)).
+    length xs) (c.in_ok-links.ensures.same ∙ c.as_slice.ensures.value) in
+    let are : AreRuns slots arity links runs =
+    AreRuns-other slots arity c.table.inside.links.items links runs c.table.invariant many in
+    links_are_in slots arity links c.in_ok-ranks.ranks.value c.stored_links.new.store
+    (subst (AreRuns slots arity links) (sym c.in_ok-ranks.ensures) are)
+    c.in_ok-links.ensures.stored

@@ -18,9 +18,19 @@ loop-joint-preserved c =
     let within = c.loop-joint-test.true in
     let link = c.in_ok-link.link in
     record {
-      links = subst (λ (front : List Joint). AreSubstituted c.args.table.now.slots c.args.table.now.arity c.args.table.now c.args.values.now front c.push.new.self.items) (sym (take_more joints i (record { first = 0; second = 0; rank = 0 }) within))
-          (AreSubstituted-more c.args.table.now.slots c.args.table.now.arity c.args.table.now c.args.values.now (take i joints) joint c.loop-joint.links.items c.push.new.self.items link c.loop-joint.invariant.links c.in_ok-link.ensures.link c.in_ok-push.ensures.items);
+      links = subst (λ (front : List Joint).
+          AreSubstituted c.args.table.now.slots c.args.table.now.arity c.args.table.now
+          c.args.values.now front c.push.new.self.items)
+          (sym (take_more joints i (record { first = 0; second = 0; rank = 0 }) within))
+          (AreSubstituted-more c.args.table.now.slots c.args.table.now.arity c.args.table.now
+          c.args.values.now (take i joints) joint c.loop-joint.links.items c.push.new.self.items
+          link c.loop-joint.invariant.links c.in_ok-link.ensures.link
+          c.in_ok-push.ensures.items);
       stored = subst (All (Contains c.substituted_link.new.store)) (sym c.in_ok-push.ensures.items)
-          (All-push (Contains c.substituted_link.new.store) c.loop-joint.links.items link (All-Extends c.loop-joint.store c.substituted_link.new.store c.loop-joint.links.items c.in_ok-link.ensures.grown c.loop-joint.invariant.stored) c.in_ok-link.ensures.stored);
-      grown = Extends-trans c.args.store.now c.loop-joint.store c.substituted_link.new.store c.loop-joint.invariant.grown c.in_ok-link.ensures.grown;
+          (All-push (Contains c.substituted_link.new.store) c.loop-joint.links.items link
+          (All-Extends c.loop-joint.store c.substituted_link.new.store c.loop-joint.links.items
+          c.in_ok-link.ensures.grown c.loop-joint.invariant.stored)
+          c.in_ok-link.ensures.stored);
+      grown = Extends-trans c.args.store.now c.loop-joint.store c.substituted_link.new.store
+          c.loop-joint.invariant.grown c.in_ok-link.ensures.grown;
     }

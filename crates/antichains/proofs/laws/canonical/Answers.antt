@@ -1,5 +1,5 @@
-use Rattle.antichains.proofs.Chains.{same_chain}
+use Rattle.antichains.proofs.Antichains.{same_antichain}
 use Rattle.antichains.proofs.laws.canonical.Goals as goal
 
 pub returns : goal.returns
-returns c = same_chain
+returns c = same_antichain

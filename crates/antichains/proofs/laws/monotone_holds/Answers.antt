@@ -1,4 +1,4 @@
-use Rattle.antichains.proofs.Chains.{IsMonotone-holds}
+use Rattle.antichains.proofs.Antichains.{IsMonotone-holds}
 use Rattle.antichains.proofs.laws.monotone_holds.Goals as goal
 
 pub returns : goal.returns

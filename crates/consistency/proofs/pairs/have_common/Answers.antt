@@ -17,8 +17,17 @@ loop-left-preserved-in-Less c =
     let inv = c.loop-left.invariant in (
       omega arith,
       inv.1,
-      Passed-less c.args.id c.args.turned c.args.one.now c.args.other.now c.loop-left.left c.loop-left.right (get_or c.args.one.now c.loop-left.left none) (get_or c.args.other.now c.loop-left.right none) (slice_get-get_or c.args.one.now c.loop-left.left none c.loop-left-test.true) (slice_get-get_or c.args.other.now c.loop-left.right none c.if-right-other.true) inv.2 c.requires.second
-          (ap (λ z. fact_cmp z (as_fact_of c.args.id c.args.turned (get_or c.args.other.now c.loop-left.right none))) (sym c.as_fact_of-first.ensures) ∙ ap (λ z. fact_cmp c.as_fact_of-first.result z) (sym c.as_fact_of-second.ensures) ∙ sym c.order.ensures ∙ c.in-Less.is),
+      Passed-less c.args.id c.args.turned c.args.one.now c.args.other.now c.loop-left.left
+          c.loop-left.right (get_or c.args.one.now c.loop-left.left none)
+          (get_or c.args.other.now c.loop-left.right none)
+          (slice_get-get_or c.args.one.now c.loop-left.left none c.loop-left-test.true)
+          (slice_get-get_or c.args.other.now c.loop-left.right none c.if-right-other.true) inv.2
+          c.requires.second
+          (ap (λ z. fact_cmp z (as_fact_of c.args.id c.args.turned
+          (get_or c.args.other.now c.loop-left.right none)))
+          (sym c.as_fact_of-first.ensures) ∙ ap (λ z.
+          fact_cmp c.as_fact_of-first.result z) (sym c.as_fact_of-second.ensures) ∙ sym
+          c.order.ensures ∙ c.in-Less.is),
     )
 
 pub loop-left-preserved : goal.loop-left-preserved
@@ -27,12 +36,24 @@ loop-left-preserved c =
     let inv = c.loop-left.invariant in (
       inv.0,
       omega arith,
-      Passed-greater c.args.id c.args.turned c.args.one.now c.args.other.now c.loop-left.left c.loop-left.right (get_or c.args.one.now c.loop-left.left none) (get_or c.args.other.now c.loop-left.right none) (slice_get-get_or c.args.one.now c.loop-left.left none c.loop-left-test.true) (slice_get-get_or c.args.other.now c.loop-left.right none c.if-right-other.true) inv.2 c.requires.first
-          (ap (λ z. fact_cmp z (as_fact_of c.args.id c.args.turned (get_or c.args.other.now c.loop-left.right none))) (sym c.as_fact_of-first.ensures) ∙ ap (λ z. fact_cmp c.as_fact_of-first.result z) (sym c.as_fact_of-second.ensures) ∙ sym c.order.ensures ∙ c.in-Greater.is),
+      Passed-greater c.args.id c.args.turned c.args.one.now c.args.other.now c.loop-left.left
+          c.loop-left.right (get_or c.args.one.now c.loop-left.left none)
+          (get_or c.args.other.now c.loop-left.right none)
+          (slice_get-get_or c.args.one.now c.loop-left.left none c.loop-left-test.true)
+          (slice_get-get_or c.args.other.now c.loop-left.right none c.if-right-other.true) inv.2
+          c.requires.first
+          (ap (λ z. fact_cmp z (as_fact_of c.args.id c.args.turned
+          (get_or c.args.other.now c.loop-left.right none)))
+          (sym c.as_fact_of-first.ensures) ∙ ap (λ z.
+          fact_cmp c.as_fact_of-first.result z) (sym c.as_fact_of-second.ensures) ∙ sym
+          c.order.ensures ∙ c.in-Greater.is),
     )
 
 pub returns-else-right-other : goal.returns-else-right-other
-returns-else-right-other c = λ _. Passed-all c.args.id c.args.turned c.args.one.now c.args.other.now c.loop-left.left c.loop-left.right c.loop-left.invariant.2 (inr c.if-right-other.false)
+returns-else-right-other c =
+    λ _. Passed-all c.args.id c.args.turned c.args.one.now c.args.other.now c.loop-left.left
+    c.loop-left.right c.loop-left.invariant.2 (inr c.if-right-other.false)
 
 pub returns-after-loop-left : goal.returns-after-loop-left
-returns-after-loop-left c = λ _. Passed-all c.args.id c.args.turned c.args.one.now c.args.other.now c.loop-left.left c.loop-left.right c.loop-left.invariant.2 (inl c.loop-left-test.false)
+returns-after-loop-left c = λ _. Passed-all c.args.id c.args.turned c.args.one.now c.args.other.now
+    c.loop-left.left c.loop-left.right c.loop-left.invariant.2 (inl c.loop-left-test.false)

@@ -9,4 +9,5 @@ none = atom.Concept (record { 0 = 0 }) (Var 0)
 
 pub returns-in-len2 : goal.returns-in-len2
 unfolding none
-returns-in-len2 c = λ lost t match. c.lack_facts.ensures lost t (match 0 none (omega arith)) (match 1 none (omega arith))
+returns-in-len2 c = λ lost t match. c.lack_facts.ensures lost t (match 0 none (omega arith))
+    (match 1 none (omega arith))

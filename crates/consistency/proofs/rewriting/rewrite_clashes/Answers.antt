@@ -1,4 +1,5 @@
-use Rattle.std.proofs.Common.{◌≡◌, ◌<◌, ◌≤◌, ◌+◌, ◌-◌, ◌++◌, [], ◌∷◌, ℕ, suc, List, length, take, drop, get_or, subst, sym, ◌∙◌, ap, arith, drop-cons}
+use Rattle.std.proofs.Common.{◌≡◌, ◌<◌, ◌≤◌, ◌+◌, ◌-◌, ◌++◌, [], ◌∷◌, ℕ, suc, List, length, take}
+use Rattle.std.proofs.Common.{drop, get_or, subst, sym, ◌∙◌, ap, arith, drop-cons}
 use Rattle.std.proofs.lemmas.List.{take-append-drop, take_more, map-append}
 use Rattle.dl_syntax.specs.declared.ontology.Clash.{Clash}
 use Rattle.dl_syntax.specs.declared.ontology.Clash.TheVariants as clash
@@ -18,14 +19,24 @@ none : Clash
 none = clash.Concepts (basic.Concept (record { 0 = 0 })) (basic.Concept (record { 0 = 0 }))
 
 -- the list up to a place, the element there, and what comes after
-parted : {X : Type 0} (xs : List X) (k : ℕ) (d : X) → k < length xs → take k xs ++ get_or xs k d ∷ drop (suc k) xs ≡ xs
-parted xs k d within = ap (λ ys. take k xs ++ ys) (sym (drop-cons xs k d within)) ∙ take-append-drop k xs
+parted : {X : Type 0} (xs : List X) (k : ℕ) (d : X) → k < length xs
+    → take k xs ++ get_or xs k d ∷ drop (suc k) xs ≡ xs
+parted xs k d within = ap (λ ys. take k xs ++ ys) (sym (drop-cons xs k d within)) ∙ take-append-drop
+    k xs
 
-queries_parted : (clashes : List Clash) (k : ℕ) (d : Clash) → k < length clashes → queries_of (take k clashes) ++ query_of (get_or clashes k d) ∷ queries_of (drop (suc k) clashes) ≡ queries_of clashes
-queries_parted clashes k d within = sym (map-append query_of (take k clashes) (get_or clashes k d ∷ drop (suc k) clashes)) ∙ ap queries_of (parted clashes k d within)
+queries_parted : (clashes : List Clash) (k : ℕ) (d : Clash) → k < length clashes
+    → queries_of (take k clashes) ++ query_of (get_or clashes k d)
+    ∷ queries_of (drop (suc k) clashes) ≡ queries_of clashes
+queries_parted clashes k d within =
+    sym (map-append query_of (take k clashes) (get_or clashes k d ∷ drop (suc k) clashes)) ∙ ap
+    queries_of (parted clashes k d within)
 
-queries_next : (clashes : List Clash) (k : ℕ) (d : Clash) → k < length clashes → queries_of (take (k + 1) clashes) ≡ queries_of (take k clashes) ++ query_of (get_or clashes k d) ∷ []
-queries_next clashes k d within = ap queries_of (take_more clashes k d within) ∙ map-append query_of (take k clashes) (get_or clashes k d ∷ [])
+queries_next : (clashes : List Clash) (k : ℕ) (d : Clash) → k < length clashes
+    → queries_of (take (k + 1) clashes) ≡ queries_of (take k clashes)
+    ++ query_of (get_or clashes k d) ∷ []
+queries_next clashes k d within =
+    ap queries_of (take_more clashes k d within) ∙ map-append query_of (take k clashes)
+    (get_or clashes k d ∷ [])
 
 pub returns-in-Err-clause-many : goal.returns-in-Err-clause-many
 unfolding none
@@ -36,10 +47,14 @@ returns-in-Err-clause-many c = λ is.
     let q : Cq = query_of (get_or clashes k none) in
     let rest : List Cq = queries_of (drop (suc k) clashes) in
     let fault : c.in-Err.fault ≡ RewriteFault.TooManyRewritings = cc in
-    let more : HoldsOfMore (Reachable e q) (c.args.room - c.loop-clash.reached) = c.rewrite_clash.ensures.many (c.in-Err.is ∙ ap Err fault) in
-    subst (λ (qs : List Cq). ReachMore e qs c.args.room) (queries_parted clashes k none c.loop-clash-test.true)
-    (more_later e (queries_of (take k clashes)) (q ∷ rest) c.loop-clash.reached c.args.room c.loop-clash.invariant.counted c.loop-clash.invariant.few
-    (more_first e (q ∷ []) rest (c.args.room - c.loop-clash.reached) (more_one e q (c.args.room - c.loop-clash.reached) more)))
+    let more : HoldsOfMore (Reachable e q) (c.args.room - c.loop-clash.reached) =
+    c.rewrite_clash.ensures.many (c.in-Err.is ∙ ap Err fault) in
+    subst (λ (qs : List Cq). ReachMore e qs c.args.room)
+    (queries_parted clashes k none c.loop-clash-test.true)
+    (more_later e (queries_of (take k clashes)) (q ∷ rest) c.loop-clash.reached c.args.room
+    c.loop-clash.invariant.counted c.loop-clash.invariant.few
+    (more_first e (q ∷ []) rest (c.args.room - c.loop-clash.reached)
+    (more_one e q (c.args.room - c.loop-clash.reached) more)))
 
 pub loop-clash-preserved : goal.loop-clash-preserved
 unfolding none
@@ -53,8 +68,12 @@ loop-clash-preserved c =
     let within : c.loop-clash.reached ≤ c.args.room = inv.few in
     let is : IsRewriting e (get_or clashes k none) c.in-Ok.rewriting = c.in-Ok.ensures.rewriting in
     record {
-      each = AllZip-next (IsRewriting e) clashes c.loop-clash.each.items _ k none c.in-Ok.rewriting c.loop-clash-test.true inv.each is c.in-Ok-push.ensures.items;
-      counted = subst (λ (qs : List Cq). ReachAll e qs (c.loop-clash.reached + c.in-Ok.rewriting.count)) (sym (queries_next clashes k none c.loop-clash-test.true))
-          (all_joined e (queries_of (take k clashes)) (q ∷ []) c.loop-clash.reached c.in-Ok.rewriting.count inv.counted (all_one e q c.in-Ok.rewriting.count is.count));
+      each = AllZip-next (IsRewriting e) clashes c.loop-clash.each.items _ k none c.in-Ok.rewriting
+          c.loop-clash-test.true inv.each is c.in-Ok-push.ensures.items;
+      counted = subst (λ (qs : List Cq).
+          ReachAll e qs (c.loop-clash.reached + c.in-Ok.rewriting.count))
+          (sym (queries_next clashes k none c.loop-clash-test.true))
+          (all_joined e (queries_of (take k clashes)) (q ∷ []) c.loop-clash.reached
+          c.in-Ok.rewriting.count inv.counted (all_one e q c.in-Ok.rewriting.count is.count));
       few = omega arith;
     }

@@ -7,5 +7,11 @@ use Rattle.fact_index.proofs.Index.role.Goals as goal
 
 pub returns-then-inverse-clause-members : goal.returns-then-inverse-clause-members
 returns-then-inverse-clause-members c =
-    rw (c.role_run_by_last.ensures.facts, c.as_slice.ensures.value, ← c.self.view_is, filter_of_roles c.args.id c.self.inside.facts.items)
-    (filter_members (is_of_role c.args.id) c.self.inside.by_last.items (filter is_role c.self.inside.facts.items) c.self.invariant.same)
+    rw (
+      c.role_run_by_last.ensures.facts,
+      c.as_slice.ensures.value,
+      ← c.self.view_is,
+      filter_of_roles c.args.id c.self.inside.facts.items,
+    )
+    (filter_members (is_of_role c.args.id) c.self.inside.by_last.items
+    (filter is_role c.self.inside.facts.items) c.self.invariant.same)

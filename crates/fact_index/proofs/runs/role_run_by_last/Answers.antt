@@ -11,14 +11,18 @@ use Rattle.fact_index.specs.Order.{element_cmp, is_of_role, last_cmp, last_of, t
 use Rattle.fact_index.specs.Index.{is_before_role}
 use Rattle.fact_index.proofs.Orders.{fact_cmp-total, last_cmp-total, sorted_from_strict}
 use Rattle.fact_index.proofs.SortedRuns.{filter_ordered, run_is}
-use Rattle.fact_index.proofs.PredicateTests.{role_by_last, role_not_before, turned_before, turned_of_role}
+use Rattle.fact_index.proofs.PredicateTests.{role_by_last, role_not_before, turned_before}
+use Rattle.fact_index.proofs.PredicateTests.{turned_of_role}
 use Rattle.fact_index.proofs.runs.role_run_by_last.Goals as goal
 use Rattle.fact_index.proofs.runs.role_run_by_last.Goals.{After-partition_point-count}
 
 -- what the two searches find
-found : (c : After-partition_point-count) → take c.partition_point-count.result (drop c.partition_point-start.result c.args.facts.now) ≡ filter (is_of_role c.args.id) c.args.facts.now
+found : (c : After-partition_point-count)
+    → take c.partition_point-count.result (drop c.partition_point-start.result c.args.facts.now)
+    ≡ filter (is_of_role c.args.id) c.args.facts.now
 found c =
-    run_is fact_cmp-total (turned_of) c.args.facts.now (sorted_from_strict last_cmp-total c.args.facts.now c.requires)
+    run_is fact_cmp-total (turned_of) c.args.facts.now
+    (sorted_from_strict last_cmp-total c.args.facts.now c.requires)
     (is_before_role c.args.id)
     (is_of_role c.args.id)
     c.partition_point-start.result
@@ -27,18 +31,29 @@ found c =
     (turned_of_role c.args.id)
     (role_not_before c.args.id)
     c.partition_point-start.ensures.bound
-    (λ p. IsPartitionPoint-from_clause (is_before_role c.args.id) c.args.facts.now c.partition_point-start.result c.partition_point-start.ensures.partitioned p (λ a r q k. search rules))
-    (λ p. IsPartitionPoint-from_clause (is_of_role c.args.id) (drop c.partition_point-start.result c.args.facts.now) c.partition_point-count.result (rw take_rest at c.partition_point-count.ensures.partitioned) p (λ a r q k. search rules))
+    (λ p. IsPartitionPoint-from_clause (is_before_role c.args.id) c.args.facts.now
+    c.partition_point-start.result c.partition_point-start.ensures.partitioned p (λ a r q k.
+    search rules))
+    (λ p. IsPartitionPoint-from_clause (is_of_role c.args.id)
+    (drop c.partition_point-start.result c.args.facts.now) c.partition_point-count.result
+    (rw take_rest at c.partition_point-count.ensures.partitioned) p (λ a r q k. search rules))
 
 pub returns-clause-facts : goal.returns-clause-facts
-returns-clause-facts c = rw take_rest (found (goal.at.returns-clause-facts c).After-partition_point-count)
+returns-clause-facts c =
+    rw take_rest (found (goal.at.returns-clause-facts c).After-partition_point-count)
 
 pub returns-clause-ordered : goal.returns-clause-ordered
 returns-clause-ordered c =
     let P : List Fact → Type 0 = λ ys. IsSortedByKey last_of element_cmp ys in
-    rw take_rest (subst P (sym (found (goal.at.returns-clause-ordered c).After-partition_point-count)) (filter_ordered fact_cmp-total (turned_of) c.args.facts.now (sorted_from_strict last_cmp-total c.args.facts.now c.requires) (is_of_role c.args.id) (λ x y. is_lt (element_cmp (last_of x) (last_of y))) (role_by_last c.args.id)))
+    rw take_rest (subst P
+    (sym (found (goal.at.returns-clause-ordered c).After-partition_point-count))
+    (filter_ordered fact_cmp-total (turned_of) c.args.facts.now
+    (sorted_from_strict last_cmp-total c.args.facts.now c.requires) (is_of_role c.args.id)
+    (λ x y. is_lt (element_cmp (last_of x) (last_of y))) (role_by_last c.args.id)))
 
 pub returns-clause-rising : goal.returns-clause-rising
 returns-clause-rising c =
     let P : List Fact → Type 0 = λ ys. IsStrictlySortedBy last_cmp ys in
-    rw take_rest (subst P (sym (found (goal.at.returns-clause-rising c).After-partition_point-count)) (IsStrictlySortedBy-filter last_cmp (is_of_role c.args.id) c.args.facts.now c.requires))
+    rw take_rest (subst P
+    (sym (found (goal.at.returns-clause-rising c).After-partition_point-count))
+    (IsStrictlySortedBy-filter last_cmp (is_of_role c.args.id) c.args.facts.now c.requires))

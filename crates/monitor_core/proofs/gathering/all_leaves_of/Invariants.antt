@@ -9,6 +9,7 @@ invariant-loop-query l = record {
   few : l.all.reached ≤ l.room;
   tables : AreTables (take l.query-index l.queries);
   leaves : AreLeaves l.rewriter l.all.leaves.items;
-  places : AreAllPlaces l.rewriter l.all.leaves.items (take l.query-index l.queries) l.all.places.items;
+  places : AreAllPlaces l.rewriter l.all.leaves.items (take l.query-index l.queries)
+      l.all.places.items;
   all : ReachAll l.rewriter (all_leaves (take l.query-index l.queries)) l.all.reached;
 }

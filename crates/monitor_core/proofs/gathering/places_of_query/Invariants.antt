@@ -9,5 +9,6 @@ invariant-loop-node l = record {
   few : l.places.reached ≤ l.room;
   leaves : AreLeaves l.rewriter l.leaves.items;
   kept : KeepsLeaves l.fn.leaves.items l.leaves.items;
-  ok : Gathers l.rewriter (leaves_of (take l.node-index l.nodes)) l.leaves.items l.places.each.items l.places.reached;
+  ok : Gathers l.rewriter (leaves_of (take l.node-index l.nodes)) l.leaves.items l.places.each.items
+      l.places.reached;
 }

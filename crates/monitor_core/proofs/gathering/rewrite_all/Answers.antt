@@ -10,7 +10,8 @@ pub returns-in-Err-all_leaves_of-clause-many : goal.returns-in-Err-all_leaves_of
 returns-in-Err-all_leaves_of-clause-many c = λ is.
     let o = c.args.ontology.now in
     let queries = c.args.queries.now in
-    let here : ReachMore c.in-Ok.rewriter (all_leaves queries) c.args.room = c.all_leaves_of.ensures.many (c.in-Err-all_leaves_of.is ∙ cc) in
+    let here : ReachMore c.in-Ok.rewriter (all_leaves queries) c.args.room =
+    c.all_leaves_of.ensures.many (c.in-Err-all_leaves_of.is ∙ cc) in
     more_first (encoded o) (all_leaves queries) (queries_of o.clashes) c.args.room
     (subst (λ (e : Encoded). ReachMore e (all_leaves queries) c.args.room) c.in-Ok.ensures here)
 
@@ -20,9 +21,12 @@ returns-in-Err-prepare-clause-many c = λ is.
     let queries = c.args.queries.now in
     let reached = c.in-Ok-all_leaves_of.all.reached in
     let all : ReachAll (encoded o) (all_leaves queries) reached =
-    subst (λ (e : Encoded). ReachAll e (all_leaves queries) reached) c.in-Ok.ensures c.in-Ok-all_leaves_of.ensures.all in
-    let more : ReachMore (encoded o) (queries_of o.clashes) (c.args.room - reached) = c.prepare.ensures.many (c.in-Err-prepare.is ∙ cc) in
-    more_later (encoded o) (all_leaves queries) (queries_of o.clashes) reached c.args.room all c.in-Ok-all_leaves_of.ensures.few more
+    subst (λ (e : Encoded). ReachAll e (all_leaves queries) reached) c.in-Ok.ensures
+    c.in-Ok-all_leaves_of.ensures.all in
+    let more : ReachMore (encoded o) (queries_of o.clashes) (c.args.room - reached) =
+    c.prepare.ensures.many (c.in-Err-prepare.is ∙ cc) in
+    more_later (encoded o) (all_leaves queries) (queries_of o.clashes) reached c.args.room all
+    c.in-Ok-all_leaves_of.ensures.few more
 
 pub returns-clause-within : goal.returns-clause-within
 returns-clause-within c =
@@ -30,9 +34,12 @@ returns-clause-within c =
     let queries = c.args.queries.now in
     let reached = c.in-Ok-all_leaves_of.all.reached in
     let all : ReachAll (encoded o) (all_leaves queries) reached =
-    subst (λ (e : Encoded). ReachAll e (all_leaves queries) reached) c.in-Ok.ensures c.in-Ok-all_leaves_of.ensures.all in
+    subst (λ (e : Encoded). ReachAll e (all_leaves queries) reached) c.in-Ok.ensures
+    c.in-Ok-all_leaves_of.ensures.all in
     let few : reached ≤ c.args.room = c.in-Ok-all_leaves_of.ensures.few in
-    let rest : c.in-Ok-prepare.clashes.reached ≤ c.args.room - reached = c.in-Ok-prepare.ensures.few in
+    let rest : c.in-Ok-prepare.clashes.reached ≤ c.args.room - reached =
+    c.in-Ok-prepare.ensures.few in
     no_more (encoded o) (starts o queries) (reached + c.in-Ok-prepare.clashes.reached) c.args.room
-    (all_joined (encoded o) (all_leaves queries) (queries_of o.clashes) reached c.in-Ok-prepare.clashes.reached all c.in-Ok-prepare.ensures.count)
+    (all_joined (encoded o) (all_leaves queries) (queries_of o.clashes) reached
+    c.in-Ok-prepare.clashes.reached all c.in-Ok-prepare.ensures.count)
     (omega arith)

@@ -12,6 +12,14 @@ loop-query-preserved c =
     let queries = c.args.queries.now in
     let i = c.loop-query._query-index in
     subst (λ (ks : List Kept). AllFresh (take (i + 1) queries) ks) (sym c.in_ok-push.ensures.items)
-    (subst (λ (qs : List Tcq). AllFresh qs (c.loop-query.kept.items ++ c.start.result ∷ [])) (sym (taken_more queries i c._query-item.result c.loop-query-test.true c._query-item.is))
-    (all_zipped_more IsFresh (take i queries) c.loop-query.kept.items c._query-item.result c.start.result c.loop-query.invariant
-    (record { counted = (c.start.ensures.stands [] 0 c._query-item.result true).counted; fits = c.start.ensures.fits c._query-item.result; stands = λ inclusions slots. c.start.ensures.stands inclusions slots c._query-item.result true })))
+    (subst (λ (qs : List Tcq). AllFresh qs (c.loop-query.kept.items ++ c.start.result ∷ []))
+    (sym (taken_more queries i c._query-item.result c.loop-query-test.true c._query-item.is))
+    (all_zipped_more IsFresh (take i queries) c.loop-query.kept.items c._query-item.result
+    c.start.result c.loop-query.invariant
+    (record {
+      counted = (c.start.ensures.stands [] 0 c._query-item.result true).counted;
+      fits =
+          c.start.ensures.fits c._query-item.result;
+      stands =
+          λ inclusions slots. c.start.ensures.stands inclusions slots c._query-item.result true;
+    })))

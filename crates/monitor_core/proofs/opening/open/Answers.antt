@@ -13,7 +13,10 @@ pub invariant_of-result : goal.invariant_of-result
 invariant_of-result c = record {
   plan = c.in-Ok.ensures.plan;
   state = c.in-Ok-first_state.ensures.state;
-  fits = fresh_fits c.in-Ok.plan.ontology c.in-Ok.plan.queries.items c.in-Ok-first_state.state.kept.items (subst (λ (qs : List Tcq). AllFresh qs c.in-Ok-first_state.state.kept.items) c.as_slice.ensures.value c.in-Ok-first_state.ensures.kept);
+  fits = fresh_fits c.in-Ok.plan.ontology c.in-Ok.plan.queries.items
+      c.in-Ok-first_state.state.kept.items
+      (subst (λ (qs : List Tcq). AllFresh qs c.in-Ok-first_state.state.kept.items)
+      c.as_slice.ensures.value c.in-Ok-first_state.ensures.kept);
 }
 
 pub returns-in-Ok-first_state-clause-stands : goal.returns-in-Ok-first_state-clause-stands
@@ -21,11 +24,15 @@ unfolding Stands
 returns-in-Ok-first_state-clause-stands c = (
   c.in-Ok-first_state.ensures.count,
   (refl, refl),
-  fresh_stands c.in-Ok.plan.ontology c.in-Ok.plan.queries.items c.in-Ok-first_state.state.kept.items (subst (λ (qs : List Tcq). AllFresh qs c.in-Ok-first_state.state.kept.items) c.as_slice.ensures.value c.in-Ok-first_state.ensures.kept),
+  fresh_stands c.in-Ok.plan.ontology c.in-Ok.plan.queries.items c.in-Ok-first_state.state.kept.items
+      (subst (λ (qs : List Tcq). AllFresh qs c.in-Ok-first_state.state.kept.items)
+      c.as_slice.ensures.value c.in-Ok-first_state.ensures.kept),
 )
 
 pub returns-in-Ok-first_state-clause-setting : goal.returns-in-Ok-first_state-clause-setting
 unfolding setting_of
 returns-in-Ok-first_state-clause-setting c =
-    ap (λ (o : Declared). let s : Setting = record { ontology = o; queries = c.in-Ok.plan.queries.items } in s) c.in-Ok.ensures.ontology
-    ∙ ap (λ (qs : Vec Tcq Global). let s : Setting = record { ontology = c.args.ontology; queries = qs.items } in s) c.in-Ok.ensures.queries
+    ap (λ (o : Declared). let s : Setting =
+    record { ontology = o; queries = c.in-Ok.plan.queries.items } in s) c.in-Ok.ensures.ontology
+    ∙ ap (λ (qs : Vec Tcq Global). let s : Setting =
+    record { ontology = c.args.ontology; queries = qs.items } in s) c.in-Ok.ensures.queries

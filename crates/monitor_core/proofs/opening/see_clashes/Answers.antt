@@ -15,8 +15,12 @@ loop-place-preserved c =
     let new = c.see.new.sight in
     let kept : KeepsSight old new = c.in_ok-see.ensures.kept in (
       kept_both c.args.sight.now old new kept c.loop-place.invariant.0,
-      core_more new cores i c.core.result.now c.core.ensures (cores_kept old new kept (take i cores) c.loop-place.invariant.1) c.in_ok-see.ensures.seen,
+      core_more new cores i c.core.result.now c.core.ensures
+          (cores_kept old new kept (take i cores) c.loop-place.invariant.1)
+          c.in_ok-see.ensures.seen,
     )
 
 pub returns-clause-seen : goal.returns-clause-seen
-returns-clause-seen c = subst (All (SeesUnion c.loop-place.sight)) (take_all c.loop-place.place (cores_of c.args.clashes.now) (omega (arith, c.loop-place-test.false, c.count-place-end.ensures))) c.loop-place.invariant.1
+returns-clause-seen c = subst (All (SeesUnion c.loop-place.sight))
+    (take_all c.loop-place.place (cores_of c.args.clashes.now)
+    (omega (arith, c.loop-place-test.false, c.count-place-end.ensures))) c.loop-place.invariant.1

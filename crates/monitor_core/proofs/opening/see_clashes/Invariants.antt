@@ -5,4 +5,5 @@ use Rattle.saturate.specs.Sight.{SeesUnion, KeepsSight}
 use Rattle.monitor_core.proofs.opening.see_clashes.Given as goal
 
 abbrev pub invariant-loop-place : goal.invariant-loop-place
-invariant-loop-place l = KeepsSight l.fn.sight l.sight × All (SeesUnion l.sight) (take l.place (cores_of l.clashes))
+invariant-loop-place l = KeepsSight l.fn.sight l.sight
+    × All (SeesUnion l.sight) (take l.place (cores_of l.clashes))

@@ -3,4 +3,5 @@ use Rattle.monitor_run.specs.Containments.{pairs_with, TellsMorePairs}
 use Rattle.monitor_run.proofs.containing.append_query.Given as goal
 
 abbrev pub invariant-loop-from : goal.invariant-loop-from
-invariant-loop-from l = TellsMorePairs l.source.ontology.now (pairs_with l.place l.query 0 (take l.from l.queries)) l.initial.text.items l.text.items
+invariant-loop-from l = TellsMorePairs l.source.ontology.now
+    (pairs_with l.place l.query 0 (take l.from l.queries)) l.initial.text.items l.text.items

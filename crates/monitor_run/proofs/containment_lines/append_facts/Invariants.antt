@@ -4,4 +4,5 @@ use Rattle.monitor_run.specs.Containments.{fact_text}
 use Rattle.monitor_run.proofs.containment_lines.append_facts.Given as goal
 
 abbrev pub invariant-loop-fact : goal.invariant-loop-fact
-invariant-loop-fact l = l.out.items ≡ l.initial.out.items ++ flat_map (λ f. codes " " ++ fact_text l.ontology f) (take l.fact-index l.facts)
+invariant-loop-fact l = l.out.items ≡ l.initial.out.items
+    ++ flat_map (λ f. codes " " ++ fact_text l.ontology f) (take l.fact-index l.facts)

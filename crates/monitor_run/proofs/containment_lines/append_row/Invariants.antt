@@ -4,4 +4,5 @@ use Rattle.monitor_run.specs.Containments.{individual_text}
 use Rattle.monitor_run.proofs.containment_lines.append_row.Given as goal
 
 abbrev pub invariant-loop-id : goal.invariant-loop-id
-invariant-loop-id l = l.out.items ≡ l.initial.out.items ++ flat_map (λ i. codes " " ++ individual_text l.ontology i) (take l.id-index l.row)
+invariant-loop-id l = l.out.items ≡ l.initial.out.items
+    ++ flat_map (λ i. codes " " ++ individual_text l.ontology i) (take l.id-index l.row)

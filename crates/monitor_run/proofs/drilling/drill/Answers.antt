@@ -18,7 +18,9 @@ rehearse-requires-clause-spelled g c =
     queries_spelled setting.ontology say.queries setting.queries say.queries_say
 
 pub rehearse-requires-clause-short : goal.rehearse-requires-clause-short
-rehearse-requires-clause-short g c = subst (λ (s : List ℕ). length s ≤ 2 ^ 40) (sym c.in-Ok.ensures.stream) (made_within c.args.seed c.args.count c.requires)
+rehearse-requires-clause-short g c =
+    subst (λ (s : List ℕ). length s ≤ 2 ^ 40) (sym c.in-Ok.ensures.stream)
+    (made_within c.args.seed c.args.count c.requires)
 
 pub returns-in-Ok-open_texts : goal.returns-in-Ok-open_texts
 returns-in-Ok-open_texts g c = record {
@@ -26,12 +28,22 @@ returns-in-Ok-open_texts g c = record {
       let opens = c.in-Ok-open_texts.ensures.opens.opens in
       let setting = setting_of c.in-Ok-open_texts.monitor in
       let say : MadeSay setting =
-      subst (λ (o : List ℕ). Says (Is o) (Is queries_text) setting) (c.deref.ensures.value ∙ c.in-Ok.ensures.ontology)
-      (subst (λ (q : List ℕ). Says (Is c.deref.result.now) (Is q) setting) (c.deref-2.ensures.value ∙ c.in-Ok.ensures.queries) opens.say) in
+      subst (λ (o : List ℕ). Says (Is o) (Is queries_text) setting)
+      (c.deref.ensures.value ∙ c.in-Ok.ensures.ontology)
+      (subst (λ (q : List ℕ). Says (Is c.deref.result.now) (Is q) setting)
+      (c.deref-2.ensures.value ∙ c.in-Ok.ensures.queries) opens.say) in
       inr (
         setting,
         record { say = say; taken = opens.taken; few = opens.few },
-        subst (λ (s : List ℕ). TextEnds (IsDrill setting s) c.rehearse.result (record { input = input; out = sink_told g.K.Sink c.args.out.now }) (record { input = input; out = sink_told g.K.Sink c.rehearse.new.out }))
+        subst (λ (s : List ℕ). TextEnds (IsDrill setting s) c.rehearse.result (record {
+          input =
+              input;
+          out = sink_told g.K.Sink c.args.out.now;
+        }) (record {
+          input = input;
+          out =
+              sink_told g.K.Sink c.rehearse.new.out;
+        }))
             c.in-Ok.ensures.stream (c.rehearse.ensures.ends input),
       );
 }

@@ -7,12 +7,19 @@ use Rattle.monitor_run.specs.Sources.{Opens, Says, nothing_more}
 use Rattle.monitor_run.proofs.opening.open_texts.Goals as goal
 
 pub monitor_of-requires : goal.monitor_of-requires
-monitor_of-requires c = said_are_within c.in-Ok.sources.ontology c.in-Ok.ensures.say.queries c.in-Ok.sources.queries.items c.in-Ok.ensures.say.queries_say
+monitor_of-requires c = said_are_within c.in-Ok.sources.ontology c.in-Ok.ensures.say.queries
+    c.in-Ok.sources.queries.items c.in-Ok.ensures.say.queries_say
 
 pub returns-in-Ok-monitor_of-clause-opens : goal.returns-in-Ok-monitor_of-clause-opens
 returns-in-Ok-monitor_of-clause-opens c =
     let says : Setting → Type 0 = Says (Is c.args.ontology.now) (Is c.args.queries.now) in
-    let opens : Opens nothing_more says (setting_in c.in-Ok.sources) = record { say = c.in-Ok.ensures.say; taken = λ refusal own. own; few = c.in-Ok-monitor_of.ensures.few } in
+    let opens : Opens nothing_more says (setting_in c.in-Ok.sources) =
+    record {
+      say = c.in-Ok.ensures.say;
+      taken = λ refusal own. own;
+      few =
+          c.in-Ok-monitor_of.ensures.few;
+    } in
     record {
       opens = subst (Opens nothing_more says) (sym c.in-Ok-monitor_of.ensures.setting) opens;
       stands = c.in-Ok-monitor_of.ensures.stands;

@@ -3,4 +3,5 @@ use Rattle.monitor_run.specs.Reaching.{clash_query, ReachesJust}
 use Rattle.monitor_run.proofs.reaching.count_clashes.Given as goal
 
 abbrev pub invariant-loop-clash : goal.invariant-loop-clash
-invariant-loop-clash l = (l.count ≤ l.room) × ReachesJust l.rewriter (map clash_query (take l.clash-index l.clashes)) l.count
+invariant-loop-clash l = (l.count ≤ l.room)
+    × ReachesJust l.rewriter (map clash_query (take l.clash-index l.clashes)) l.count

@@ -4,4 +4,6 @@ use Rattle.monitor_run.specs.Reaching.{Gathers}
 use Rattle.monitor_run.proofs.rewriting.gather_query.Given as goal
 
 abbrev pub invariant-loop-place : goal.invariant-loop-place
-invariant-loop-place l = (l.count ≤ l.room) × Gathers l.source.ontology.now (leaves_from l.name 0 (take l.place l.nodes)) l.initial.text.items l.text.items l.count
+invariant-loop-place l = (l.count ≤ l.room)
+    × Gathers l.source.ontology.now (leaves_from l.name 0 (take l.place l.nodes))
+    l.initial.text.items l.text.items l.count

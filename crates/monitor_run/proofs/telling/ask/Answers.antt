@@ -7,5 +7,6 @@ use Rattle.monitor_run.proofs.telling.ask.Goals as goal
 
 pub returns-in-TooLong-clause-ok : goal.returns-in-TooLong-clause-ok
 returns-in-TooLong-clause-ok c = rw c.in-TooLong.is (λ history stands.
-    subst (λ (e : Event). AcceptsLine c.args.options c.args.monitor.now c.args.monitor.now too_long c.args.number (Some e) history) (sym c.refused.ensures)
+    subst (λ (e : Event). AcceptsLine c.args.options c.args.monitor.now c.args.monitor.now too_long
+    c.args.number (Some e) history) (sym c.refused.ensures)
     (accepts_long c.args.options c.args.monitor.now history c.args.number stands))

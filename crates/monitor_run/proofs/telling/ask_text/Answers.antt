@@ -12,20 +12,36 @@ use Rattle.monitor_run.proofs.telling.ask_text.Goals as goal
 
 pub take-requires : goal.take-requires
 take-requires c =
-    let is : said c.ontology.result.now c.args.options.form c.args.line.now ≡ says c.in-Ok-Facts.snapshot = rw c.in-Ok-Facts.field-0-is at c.in-Ok-Facts.ensures in
-    says_over (setting_of c.args.monitor.now).ontology c.args.options.form c.args.line.now c.in-Ok-Facts.snapshot (subst (λ (o : Declared). said o c.args.options.form c.args.line.now ≡ says c.in-Ok-Facts.snapshot) c.ontology.ensures is)
+    let is : said c.ontology.result.now c.args.options.form c.args.line.now
+    ≡ says c.in-Ok-Facts.snapshot = rw c.in-Ok-Facts.field-0-is at c.in-Ok-Facts.ensures in
+    says_over (setting_of c.args.monitor.now).ontology c.args.options.form c.args.line.now
+    c.in-Ok-Facts.snapshot (subst (λ (o : Declared). said o c.args.options.form c.args.line.now
+    ≡ says c.in-Ok-Facts.snapshot) c.ontology.ensures is)
 
 pub returns-in-Ok-cause_of-clause-names : goal.returns-in-Ok-cause_of-clause-names
 returns-in-Ok-cause_of-clause-names c =
     let setting = setting_of c.args.monitor.now in
-    let is : IsRefusedFor (said setting.ontology c.args.options.form c.args.line.now) c.in-Ok-cause_of.cause =
-    subst (λ (o : Declared). IsRefusedFor (said o c.args.options.form c.args.line.now) c.in-Ok-cause_of.cause) c.ontology.ensures (c.in-Ok-cause_of.ensures (said c.ontology.result.now c.args.options.form c.args.line.now) c.in-Err.ensures) in
-    refused_names setting.ontology setting.queries c.args.number c.in-Ok-cause_of.cause c.refused.result c.refused.ensures c.requires (cause_spelled setting.ontology c.args.options.form c.args.line.now c.in-Ok-cause_of.cause is)
+    let is : IsRefusedFor (said setting.ontology c.args.options.form c.args.line.now)
+    c.in-Ok-cause_of.cause =
+    subst (λ (o : Declared). IsRefusedFor (said o c.args.options.form c.args.line.now)
+    c.in-Ok-cause_of.cause) c.ontology.ensures
+    (c.in-Ok-cause_of.ensures (said c.ontology.result.now c.args.options.form c.args.line.now)
+    c.in-Err.ensures) in
+    refused_names setting.ontology setting.queries c.args.number c.in-Ok-cause_of.cause
+    c.refused.result c.refused.ensures c.requires
+    (cause_spelled setting.ontology c.args.options.form c.args.line.now c.in-Ok-cause_of.cause
+    is)
 
 pub returns-in-Ok-cause_of-clause-ok : goal.returns-in-Ok-cause_of-clause-ok
 returns-in-Ok-cause_of-clause-ok c = λ history stands.
     let setting = setting_of c.args.monitor.now in
-    let is : IsRefusedFor (said setting.ontology c.args.options.form c.args.line.now) c.in-Ok-cause_of.cause =
-    subst (λ (o : Declared). IsRefusedFor (said o c.args.options.form c.args.line.now) c.in-Ok-cause_of.cause) c.ontology.ensures (c.in-Ok-cause_of.ensures (said c.ontology.result.now c.args.options.form c.args.line.now) c.in-Err.ensures) in
-    subst (λ (e : Event). AcceptsLine c.args.options c.args.monitor.now c.args.monitor.now (text c.args.line.now) c.args.number (Some e) history) (sym c.refused.ensures)
-    (refused_text c.args.options c.args.monitor.now c.args.line.now c.args.number c.in-Ok-cause_of.cause history is stands)
+    let is : IsRefusedFor (said setting.ontology c.args.options.form c.args.line.now)
+    c.in-Ok-cause_of.cause =
+    subst (λ (o : Declared). IsRefusedFor (said o c.args.options.form c.args.line.now)
+    c.in-Ok-cause_of.cause) c.ontology.ensures
+    (c.in-Ok-cause_of.ensures (said c.ontology.result.now c.args.options.form c.args.line.now)
+    c.in-Err.ensures) in
+    subst (λ (e : Event). AcceptsLine c.args.options c.args.monitor.now c.args.monitor.now
+    (text c.args.line.now) c.args.number (Some e) history) (sym c.refused.ensures)
+    (refused_text c.args.options c.args.monitor.now c.args.line.now c.args.number
+    c.in-Ok-cause_of.cause history is stands)

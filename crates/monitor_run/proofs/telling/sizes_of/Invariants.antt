@@ -8,5 +8,7 @@ abbrev pub invariant-loop-place : goal.invariant-loop-place
 invariant-loop-place l = record {
   many : length l.sizes.items ≡ l.place;
   counted : l.count ≡ length (setting_of l.monitor).queries;
-  sizes : (history : History) → Stands l.monitor history → AreSizes (setting_of l.monitor) history (take l.place (setting_of l.monitor).queries) l.sizes.items;
+  sizes : (history : History) → Stands l.monitor history
+      → AreSizes (setting_of l.monitor) history (take l.place (setting_of l.monitor).queries)
+      l.sizes.items;
 }

@@ -1,4 +1,5 @@
-use Rattle.std.proofs.Common.{◌≡◌, ℕ, ◌≤◌, ◌+◌, ◌-◌, ◌++◌, [], ◌∷◌, List, suc, take, drop, sym, ◌∙◌, subst, arith}
+use Rattle.std.proofs.Common.{◌≡◌, ℕ, ◌≤◌, ◌+◌, ◌-◌, ◌++◌, [], ◌∷◌, List, suc, take, drop, sym, ◌∙◌}
+use Rattle.std.proofs.Common.{subst, arith}
 use Rattle.std.specs.Prelude.{Vec}
 use Rattle.std.specs.Global.{Global}
 use Rattle.std.proofs.lemmas.Slice.Zip.{all_zipped_more}
@@ -17,10 +18,15 @@ returns-in-Err-clause-many c = λ is.
     let queries = c.args.queries.now in
     let i = c.loop-query.query-index in
     let q = c.query-item.result in
-    let more : ReachMore c.args.rewriter.now (leaves_of q.nodes) (c.args.room - c.loop-query.unions.reached) = c.union_of.ensures.many (c.in-Err.is ∙ cc) in
-    subst (λ (qs : List Cq). ReachMore c.args.rewriter.now qs c.args.room) (sym (all_leaves_parted queries i q c.loop-query-test.true c.query-item.is))
-    (more_later c.args.rewriter.now (all_leaves (take i queries)) (leaves_of q.nodes ++ all_leaves (drop (suc i) queries)) c.loop-query.unions.reached c.args.room c.loop-query.invariant.all c.loop-query.invariant.few
-    (more_first c.args.rewriter.now (leaves_of q.nodes) (all_leaves (drop (suc i) queries)) (c.args.room - c.loop-query.unions.reached) more))
+    let more : ReachMore c.args.rewriter.now (leaves_of q.nodes)
+    (c.args.room - c.loop-query.unions.reached) = c.union_of.ensures.many (c.in-Err.is ∙ cc) in
+    subst (λ (qs : List Cq). ReachMore c.args.rewriter.now qs c.args.room)
+    (sym (all_leaves_parted queries i q c.loop-query-test.true c.query-item.is))
+    (more_later c.args.rewriter.now (all_leaves (take i queries))
+    (leaves_of q.nodes ++ all_leaves (drop (suc i) queries)) c.loop-query.unions.reached
+    c.args.room c.loop-query.invariant.all c.loop-query.invariant.few
+    (more_first c.args.rewriter.now (leaves_of q.nodes) (all_leaves (drop (suc i) queries))
+    (c.args.room - c.loop-query.unions.reached) more))
 
 pub loop-query-preserved : goal.loop-query-preserved
 loop-query-preserved c =
@@ -28,14 +34,24 @@ loop-query-preserved c =
     let queries = c.args.queries.now in
     let i = c.loop-query.query-index in
     let q = c.query-item.result in
-    let next : take (i + 1) queries ≡ take i queries ++ q ∷ [] = taken_more queries i q c.loop-query-test.true c.query-item.is in
-    let few : c.in-Ok.counted.reached ≤ c.args.room - c.loop-query.unions.reached = c.in-Ok.ensures.few in
+    let next : take (i + 1) queries ≡ take i queries ++ q ∷ [] =
+    taken_more queries i q c.loop-query-test.true c.query-item.is in
+    let few : c.in-Ok.counted.reached ≤ c.args.room - c.loop-query.unions.reached =
+    c.in-Ok.ensures.few in
     let within : c.loop-query.unions.reached ≤ c.args.room = c.loop-query.invariant.few in
     record {
       few = omega arith;
-      each = subst (λ (us : List (Vec Cq Global)). AreUnionsOf e (take (i + 1) queries) us) (sym c.in-Ok-push.ensures.items)
-          (subst (λ (qs : List Tcq). AreUnionsOf e qs (c.loop-query.unions.each.items ++ c.in-Ok.counted.members ∷ [])) (sym next)
-          (all_zipped_more (IsUnionOf e) (take i queries) c.loop-query.unions.each.items q c.in-Ok.counted.members c.loop-query.invariant.each c.in-Ok.ensures.union));
-      all = subst (λ (qs : List Cq). ReachAll e qs (c.loop-query.unions.reached + c.in-Ok.counted.reached)) (sym (all_leaves_taken queries i q c.loop-query-test.true c.query-item.is))
-          (all_joined e (all_leaves (take i queries)) (leaves_of q.nodes) c.loop-query.unions.reached c.in-Ok.counted.reached c.loop-query.invariant.all c.in-Ok.ensures.all);
+      each = subst (λ (us : List (Vec Cq Global)).
+          AreUnionsOf e (take (i + 1) queries) us) (sym c.in-Ok-push.ensures.items)
+          (subst (λ (qs : List Tcq).
+          AreUnionsOf e qs (c.loop-query.unions.each.items ++ c.in-Ok.counted.members ∷ []))
+          (sym next)
+          (all_zipped_more (IsUnionOf e) (take i queries) c.loop-query.unions.each.items q
+          c.in-Ok.counted.members c.loop-query.invariant.each c.in-Ok.ensures.union));
+      all = subst (λ (qs : List Cq).
+          ReachAll e qs (c.loop-query.unions.reached + c.in-Ok.counted.reached))
+          (sym (all_leaves_taken queries i q c.loop-query-test.true c.query-item.is))
+          (all_joined e (all_leaves (take i queries)) (leaves_of q.nodes)
+          c.loop-query.unions.reached c.in-Ok.counted.reached c.loop-query.invariant.all
+          c.in-Ok.ensures.all);
     }

@@ -8,9 +8,15 @@ pub returns-in-Ok : goal.returns-in-Ok
 returns-in-Ok c =
     let o = c.args.ontology.now in
     let kind = c.args.kind in
-    let new : IsDeclared o c.args.name.now → ⊥ = λ known. let e = c.in-Ok.ensures.twice.1 known in cc in
+    let new : IsDeclared o c.args.name.now → ⊥ = λ known. let e = c.in-Ok.ensures.twice.1 known in
+    cc in
     let room : length (names_of kind o) < most_names kind =
-    omega (arith, few_names kind o c.count.ensures.sound, let h : length (names_of kind o) ≡ most_names kind → ⊥ = λ full. let e = c.in-Ok.ensures.many.1 (new, full) in cc in h) in
+    omega (
+      arith,
+      few_names kind o c.count.ensures.sound,
+      let h : length (names_of kind o)
+          ≡ most_names kind → ⊥ = λ full. let e = c.in-Ok.ensures.many.1 (new, full) in cc in h,
+    ) in
     declared_new o kind c.args.name.now new room ∙ ap Ok (sym c.in-Ok.ensures.ok.1)
 
 pub returns-in-Err-NameTwice : goal.returns-in-Err-NameTwice

@@ -13,7 +13,8 @@ returns-in-Err-Kind c =
     let o : Declared = c.loop-place.ontology in
     let fails = rw c.in-Err-Kind.field-0-is at c.in-Err-Kind.ensures in
     sym c.loop-place.invariant.rest
-    ∙ line_fails c.loop-place.before o c.in-Err-Kind.kind (lines_of (drop place text)) (lines_of (drop (place + length line + 1) text)) line c.line_at-line.ensures.line fails
+    ∙ line_fails c.loop-place.before o c.in-Err-Kind.kind (lines_of (drop place text))
+    (lines_of (drop (place + length line + 1) text)) line c.line_at-line.ensures.line fails
     ∙ ap (λ (kind : OntologyKind). Err (c.loop-place.before + 1, kind)) (sym c.in-Err-Kind.kind-is)
 
 pub loop-place-preserved : goal.loop-place-preserved
@@ -27,9 +28,12 @@ loop-place-preserved c =
     record {
       within = omega (arith, c.line_at-line.ensures.within);
       counted = omega (arith, c.loop-place.invariant.counted);
-      rest = rw e (sym (line_passes c.loop-place.before o next (lines_of (drop place text)) (lines_of (drop (place + length line + 1) text)) line c.line_at-line.ensures.line c.in-Ok.ensures)
+      rest = rw e (sym (line_passes c.loop-place.before o next (lines_of (drop place text))
+          (lines_of (drop (place + length line + 1) text)) line c.line_at-line.ensures.line
+          c.in-Ok.ensures)
           ∙ c.loop-place.invariant.rest);
     }
 
 pub returns : goal.returns
-returns c = sym c.loop-place.invariant.rest ∙ lines_end c.loop-place.before c.loop-place.place c.loop-place.ontology c.args.bytes.now c.loop-place-test.false
+returns c = sym c.loop-place.invariant.rest ∙ lines_end c.loop-place.before c.loop-place.place
+    c.loop-place.ontology c.args.bytes.now c.loop-place-test.false

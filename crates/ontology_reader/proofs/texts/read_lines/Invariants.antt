@@ -8,7 +8,8 @@ abbrev pub invariant-loop-place : goal.invariant-loop-place
 invariant-loop-place l = record {
   within : l.place ≤ length l.bytes + 1;
   counted : l.before ≤ l.place;
-  rest : lines_added l.before l.ontology (lines_of (drop l.place l.bytes)) ≡ lines_added 0 nothing_declared (lines_of l.bytes);
+  rest : lines_added l.before l.ontology (lines_of (drop l.place l.bytes))
+      ≡ lines_added 0 nothing_declared (lines_of l.bytes);
 }
 
 abbrev pub decreases-loop-place : goal.decreases-loop-place

@@ -12,7 +12,8 @@ returns-then-not-is_name c =
     let line = c.args.line.now in
     let token = c.in-Token.token in
     sym (ap (behind_words (map word_seen c.loop-token.words.items))
-    (ap words_read c.in-Token.ensures.0 ∙ no_word (lexeme token) (lexed_from line (behind token)) (search rules)))
+    (ap words_read c.in-Token.ensures.0 ∙ no_word (lexeme token) (lexed_from line (behind token))
+    (search rules)))
     ∙ c.loop-token.invariant.rest
 
 pub loop-token-preserved : goal.loop-token-preserved
@@ -21,12 +22,16 @@ loop-token-preserved c =
     let token = c.in-Token.token in
     let front = map word_seen c.loop-token.words.items in
     let pushed : map word_seen c.push.new.self.items ≡ front ++ word_of token.text.now ∷ [] =
-    rw c.in_ok-push-in-Token.ensures.items (map_push word_seen c.loop-token.words.items c.word_of.result ∙ ap (λ (w : Word). front ++ w ∷ []) c.word_of.ensures) in
+    rw c.in_ok-push-in-Token.ensures.items
+    (map_push word_seen c.loop-token.words.items c.word_of.result ∙ ap (λ (w : Word).
+    front ++ w ∷ []) c.word_of.ensures) in
     record {
       within = omega (arith, c.end-place.ensures, c.in-Token.ensures.2);
       rest =
-          ap (λ place. behind_words (map word_seen c.push.new.self.items) (words_read (lexed_from line place))) c.end-place.ensures
-          ∙ ap (λ (words : List Word). behind_words words (words_read (lexed_from line (behind token)))) pushed
+          ap (λ place. behind_words (map word_seen c.push.new.self.items)
+          (words_read (lexed_from line place))) c.end-place.ensures
+          ∙ ap (λ (words : List Word).
+          behind_words words (words_read (lexed_from line (behind token)))) pushed
           ∙ sym (word_goes_on front (lexeme token) (lexed_from line (behind token)) (search rules))
           ∙ ap (λ (read : Lexed). behind_words front (words_read read)) (sym c.in-Token.ensures.0)
           ∙ c.loop-token.invariant.rest;
@@ -35,5 +40,6 @@ loop-token-preserved c =
 pub returns-in-End : goal.returns-in-End
 returns-in-End c =
     let front = map word_seen c.loop-token.words.items in
-    sym (ap (behind_words front) (ap words_read c.in-End.ensures ∙ words_end) ∙ ap Some (append-nil front))
+    sym (ap (behind_words front) (ap words_read c.in-End.ensures ∙ words_end) ∙ ap Some
+    (append-nil front))
     ∙ c.loop-token.invariant.rest

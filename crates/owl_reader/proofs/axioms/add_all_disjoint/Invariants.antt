@@ -7,7 +7,8 @@ use Rattle.owl_reader.proofs.axioms.add_all_disjoint.Given as goal
 abbrev pub invariant-loop-place : goal.invariant-loop-place
 invariant-loop-place l = record {
   within : l.place ≤ length l.terms;
-  read : all_added l.fn.ontology (all_disjoint (map term_seen l.terms)) ≡ all_added l.ontology (all_disjoint (map term_seen (drop l.place l.terms)));
+  read : all_added l.fn.ontology (all_disjoint (map term_seen l.terms))
+      ≡ all_added l.ontology (all_disjoint (map term_seen (drop l.place l.terms)));
 }
 
 abbrev pub decreases-loop-place : goal.decreases-loop-place

@@ -8,8 +8,10 @@ abbrev pub invariant-each : goal.invariant-each
 invariant-each l = record {
   within : l.place ≤ length l.items;
   read :
-      axioms_added l.known (entities_seen l.entities) l.fn.ontology (map (item_seen l.bytes) l.items)
-      ≡ axioms_added l.known (entities_seen l.entities) l.ontology (map (item_seen l.bytes) (drop l.place l.items));
+      axioms_added l.known (entities_seen l.entities) l.fn.ontology
+      (map (item_seen l.bytes) l.items)
+      ≡ axioms_added l.known (entities_seen l.entities) l.ontology
+      (map (item_seen l.bytes) (drop l.place l.items));
 }
 
 abbrev pub decreases-each : goal.decreases-each

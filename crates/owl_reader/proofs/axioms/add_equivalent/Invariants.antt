@@ -7,7 +7,9 @@ use Rattle.owl_reader.proofs.axioms.add_equivalent.Given as goal
 abbrev pub invariant-loop-place : goal.invariant-loop-place
 invariant-loop-place l = record {
   within : l.place ≤ length l.terms;
-  read : all_added l.fn.ontology (equivalent (map term_seen l.terms)) ≡ all_added l.ontology (rest_of_cycle (map term_seen l.terms) (map term_seen (drop l.place l.terms)));
+  read : all_added l.fn.ontology (equivalent (map term_seen l.terms))
+      ≡ all_added l.ontology (rest_of_cycle (map term_seen l.terms)
+      (map term_seen (drop l.place l.terms)));
 }
 
 abbrev pub decreases-loop-place : goal.decreases-loop-place

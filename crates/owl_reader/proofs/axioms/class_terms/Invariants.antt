@@ -9,8 +9,12 @@ abbrev pub invariant-each : goal.invariant-each
 invariant-each l = record {
   within : l.place ≤ length l.classes;
   read :
-      behind (map term_seen l.fn.roles.items) (all_said (class_term l.known (entities_seen l.entities)) (map (class_seen l.bytes) l.classes))
-      ≡ behind (map term_seen l.terms.items) (all_said (class_term l.known (entities_seen l.entities)) (map (class_seen l.bytes) (drop l.place l.classes)));
+      behind (map term_seen l.fn.roles.items)
+      (all_said (class_term l.known (entities_seen l.entities))
+      (map (class_seen l.bytes) l.classes))
+      ≡ behind (map term_seen l.terms.items)
+      (all_said (class_term l.known (entities_seen l.entities))
+      (map (class_seen l.bytes) (drop l.place l.classes)));
 }
 
 abbrev pub decreases-each : goal.decreases-each

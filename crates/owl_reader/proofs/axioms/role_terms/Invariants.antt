@@ -10,7 +10,9 @@ invariant-each l = record {
   within : l.place ≤ length l.roles;
   read :
       all_said (role_term l.known (entities_seen l.entities)) (map (role_seen l.bytes) l.roles)
-      ≡ behind (map term_seen l.terms.items) (all_said (role_term l.known (entities_seen l.entities)) (map (role_seen l.bytes) (drop l.place l.roles)));
+      ≡ behind (map term_seen l.terms.items)
+      (all_said (role_term l.known (entities_seen l.entities))
+      (map (role_seen l.bytes) (drop l.place l.roles)));
 }
 
 abbrev pub decreases-each : goal.decreases-each

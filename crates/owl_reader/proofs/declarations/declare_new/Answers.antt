@@ -4,4 +4,5 @@ use Rattle.owl_reader.proofs.NameLemmas.{usable}
 use Rattle.owl_reader.proofs.declarations.declare_new.Goals as goal
 
 pub add-requires : goal.add-requires
-add-requires c = usable c.name_of-name.result.now true (sym (ap is_usable c.name_of-name.ensures ∙ c.requires)) refl
+add-requires c = usable c.name_of-name.result.now true
+    (sym (ap is_usable c.name_of-name.ensures ∙ c.requires)) refl

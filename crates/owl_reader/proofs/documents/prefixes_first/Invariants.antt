@@ -9,7 +9,10 @@ use Rattle.owl_reader.proofs.documents.prefixes_first.Given as goal
 abbrev pub invariant-loop-rest : goal.invariant-loop-rest
 invariant-loop-rest l = record {
   room : length l.rest + length l.prefixes.items ≤ length l.tokens;
-  read : prefixes_first (map (lexeme l.bytes) l.tokens) ≡ behind (map prefix_seen l.prefixes.items) (many no_prefix prefix_first (length l.tokens - length l.prefixes.items) (map (lexeme l.bytes) l.rest));
+  read : prefixes_first (map (lexeme l.bytes) l.tokens)
+      ≡ behind (map prefix_seen l.prefixes.items)
+      (many no_prefix prefix_first (length l.tokens - length l.prefixes.items)
+      (map (lexeme l.bytes) l.rest));
 }
 
 abbrev pub decreases-loop-rest : goal.decreases-loop-rest

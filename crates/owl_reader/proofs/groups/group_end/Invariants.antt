@@ -7,7 +7,8 @@ abbrev pub invariant-loop-place : goal.invariant-loop-place
 invariant-loop-place l = record {
   within : l.place ≤ length l.tokens;
   few : l.depth ≤ l.place;
-  passed : (bytes : List ℕ) → group_end 0 (map (lexeme bytes) l.tokens) ≡ group_end l.depth (map (lexeme bytes) (drop l.place l.tokens));
+  passed : (bytes : List ℕ) → group_end 0 (map (lexeme bytes) l.tokens)
+      ≡ group_end l.depth (map (lexeme bytes) (drop l.place l.tokens));
 }
 
 abbrev pub decreases-loop-place : goal.decreases-loop-place

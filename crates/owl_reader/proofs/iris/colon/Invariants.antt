@@ -4,7 +4,12 @@ use Rattle.owl_reader.specs.Iris.{is_no_colon}
 use Rattle.owl_reader.proofs.iris.colon.Given as goal
 
 abbrev pub invariant-loop-end : goal.invariant-loop-end
-invariant-loop-end l = record { within : l.end ≤ length l.text; passed : l.end + prefix_len is_no_colon (drop l.end l.text) ≡ prefix_len is_no_colon l.text }
+invariant-loop-end l =
+    record {
+      within : l.end ≤ length l.text;
+      passed : l.end + prefix_len is_no_colon
+          (drop l.end l.text) ≡ prefix_len is_no_colon l.text;
+    }
 
 abbrev pub decreases-loop-end : goal.decreases-loop-end
 decreases-loop-end l = length l.initial.text - l.end

@@ -6,7 +6,8 @@ use Rattle.owl_reader.proofs.items.behind_annotations.Given as goal
 abbrev pub invariant-groups : goal.invariant-groups
 invariant-groups l = record {
   room : length l.rest ≤ length l.tokens;
-  read : behind_annotations (map (lexeme l.bytes) l.tokens) ≡ behind_annotations (map (lexeme l.bytes) l.rest);
+  read : behind_annotations (map (lexeme l.bytes) l.tokens)
+      ≡ behind_annotations (map (lexeme l.bytes) l.rest);
 }
 
 abbrev pub decreases-groups : goal.decreases-groups

@@ -9,7 +9,10 @@ use Rattle.owl_reader.proofs.items.roles_listed.Given as goal
 abbrev pub invariant-loop-rest : goal.invariant-loop-rest
 invariant-loop-rest l = record {
   room : length l.rest + length l.roles.items ≤ length l.tokens;
-  read : up_to_close (role_first l.known) (map (lexeme l.bytes) l.tokens) ≡ behind (map (role_seen l.bytes) l.roles.items) (many closes (role_first l.known) (length l.tokens - length l.roles.items) (map (lexeme l.bytes) l.rest));
+  read : up_to_close (role_first l.known) (map (lexeme l.bytes) l.tokens)
+      ≡ behind (map (role_seen l.bytes) l.roles.items)
+      (many closes (role_first l.known) (length l.tokens - length l.roles.items)
+      (map (lexeme l.bytes) l.rest));
 }
 
 abbrev pub decreases-loop-rest : goal.decreases-loop-rest

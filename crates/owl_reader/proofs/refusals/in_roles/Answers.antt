@@ -6,7 +6,9 @@ use Rattle.owl_reader.proofs.refusals.in_roles.Goals as goal
 
 pub returns-then-is_some : goal.returns-then-is_some
 returns-then-is_some c = λ bytes.
-    found_here (role_seen bytes) in_role c.args.roles.now bytes c.in_role-found.result c.loop-place.place no_role c.loop-place-test.true (sym c.is_some.ensures ∙ c.if-is_some.true) (c.in_role-found.ensures bytes)
+    found_here (role_seen bytes) in_role c.args.roles.now bytes c.in_role-found.result
+    c.loop-place.place no_role c.loop-place-test.true
+    (sym c.is_some.ensures ∙ c.if-is_some.true) (c.in_role-found.ensures bytes)
     ∙ sym (c.loop-place.invariant.passed bytes)
 
 pub loop-place-preserved : goal.loop-place-preserved
@@ -14,8 +16,11 @@ loop-place-preserved c = record {
   within = omega arith;
   passed = λ bytes.
       c.loop-place.invariant.passed bytes
-      ∙ none_here (role_seen bytes) in_role c.args.roles.now bytes c.in_role-found.result c.loop-place.place no_role c.loop-place-test.true (sym c.is_some.ensures ∙ c.if-is_some.false) (c.in_role-found.ensures bytes);
+      ∙ none_here (role_seen bytes) in_role c.args.roles.now bytes c.in_role-found.result
+      c.loop-place.place no_role c.loop-place-test.true
+      (sym c.is_some.ensures ∙ c.if-is_some.false) (c.in_role-found.ensures bytes);
 }
 
 pub returns : goal.returns
-returns c = λ bytes. sym (c.loop-place.invariant.passed bytes ∙ none_left (role_seen bytes) in_role c.args.roles.now c.loop-place.place c.loop-place-test.false)
+returns c = λ bytes. sym (c.loop-place.invariant.passed bytes ∙ none_left (role_seen bytes) in_role
+    c.args.roles.now c.loop-place.place c.loop-place-test.false)

@@ -5,7 +5,8 @@ use Rattle.owl_reader.proofs.tokens.scan.Given as goal
 abbrev pub invariant-loop-place : goal.invariant-loop-place
 invariant-loop-place l = record {
   within : l.place ≤ length l.text;
-  rest : map (lexeme l.text) l.tokens.items ++ lexed 0 l.place (drop l.place l.text) ≡ lexed 0 0 l.text;
+  rest : map (lexeme l.text) l.tokens.items ++ lexed 0 l.place (drop l.place l.text)
+      ≡ lexed 0 0 l.text;
 }
 
 abbrev pub decreases-loop-place : goal.decreases-loop-place

@@ -7,7 +7,8 @@ abbrev pub invariant-loop-place : goal.invariant-loop-place
 invariant-loop-place l = record {
   after : l.from ≤ l.place;
   within : l.place ≤ length l.text;
-  passed : behind (l.place - l.from) (string_len l.escaped (drop l.place l.text)) ≡ string_len false (drop l.from l.text);
+  passed : behind (l.place - l.from) (string_len l.escaped (drop l.place l.text))
+      ≡ string_len false (drop l.from l.text);
 }
 
 abbrev pub decreases-loop-place : goal.decreases-loop-place

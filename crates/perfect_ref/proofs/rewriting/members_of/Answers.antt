@@ -10,5 +10,10 @@ use Rattle.perfect_ref.proofs.rewriting.members_of.Goals as goal
 pub returns : goal.returns
 returns c =
     if_ok_weaker _ _
-    (λ members same. (same, subst (λ (qs : List Cq). AllPairs (λ p q. p ≢ q) qs) (sym same) (AllPairs-from_IsDistinct cq_exact c.args.set.keys c.len-count.ensures.unique)))
+    (λ members same. (
+      same,
+      subst (λ (qs : List Cq).
+          AllPairs (λ p q. p ≢ q) qs) (sym same)
+          (AllPairs-from_IsDistinct cq_exact c.args.set.keys c.len-count.ensures.unique),
+    ))
     c.collected.result c.collected.ensures

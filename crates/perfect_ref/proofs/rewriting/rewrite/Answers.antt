@@ -9,5 +9,6 @@ returns-in-Ok-clause-answers c =
     if_ok_weaker _ _
     (λ members listed snapshot row over.
     answers_of_list c.args.ontology.now c.args.cq.now members.items c.requires.declared
-    (subst (λ (o : Encoded). Lists (PlainReachable o c.args.cq.now) members.items) c.in-Ok.ensures listed) snapshot row over)
+    (subst (λ (o : Encoded). Lists (PlainReachable o c.args.cq.now) members.items) c.in-Ok.ensures
+    listed) snapshot row over)
     c.rewrite.result c.rewrite.ensures.members

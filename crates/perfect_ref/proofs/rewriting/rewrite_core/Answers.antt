@@ -9,5 +9,6 @@ returns-in-Ok-clause-answers c =
     if_ok_weaker _ _
     (λ members listed snapshot facts row over saturated.
     answers_of_core c.args.ontology.now c.args.cq.now members.items c.requires.declared
-    (subst (λ (o : Encoded). Lists (PlainCore o c.args.cq.now) members.items) c.in-Ok.ensures listed) snapshot facts row over saturated)
+    (subst (λ (o : Encoded). Lists (PlainCore o c.args.cq.now) members.items) c.in-Ok.ensures
+    listed) snapshot facts row over saturated)
     c.rewrite_core.result c.rewrite_core.ensures.members

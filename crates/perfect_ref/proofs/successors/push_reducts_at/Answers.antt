@@ -9,9 +9,11 @@ loop-first-init c = Gains-start (λ j. Reduces j c.args.second c.args.cq.now) c.
 
 pub loop-first-preserved : goal.loop-first-preserved
 loop-first-preserved c =
-    Gains-next (λ j. Reduces j c.args.second c.args.cq.now) c.loop-first.first c.args.out.now.items c.loop-first.out.items _ c.loop-first.invariant c.in_ok-push_reduct.ensures
+    Gains-next (λ j. Reduces j c.args.second c.args.cq.now) c.loop-first.first c.args.out.now.items
+    c.loop-first.out.items _ c.loop-first.invariant c.in_ok-push_reduct.ensures
 
 pub returns : goal.returns
 returns c =
     let at : c.loop-first.first ≡ c.args.second = omega arith in
-    subst (λ (n : ℕ). Gains (Somewhere (λ j. Reduces j c.args.second c.args.cq.now) n) c.args.out.now.items c.loop-first.out.items) at c.loop-first.invariant
+    subst (λ (n : ℕ). Gains (Somewhere (λ j. Reduces j c.args.second c.args.cq.now) n)
+    c.args.out.now.items c.loop-first.out.items) at c.loop-first.invariant

@@ -8,7 +8,10 @@ pub returns-in_ok-push-in-Some : goal.returns-in_ok-push-in-Some
 returns-in_ok-push-in-Some c =
     let P : Cq → Type 0 = Replaces c.args.inclusion.now c.args.place c.args.cq.now in
     let is : P c.in-Some.next = rw c.in-Some.is at c.in_ok-next.ensures in
-    Gains-one P c.args.out.now.items _ c.in-Some.next is (λ q h. replace_has_one_result c.args.inclusion.now c.args.place c.args.cq.now c.in-Some.next q is h) c.in_ok-push-in-Some.ensures.items
+    Gains-one P c.args.out.now.items _ c.in-Some.next is (λ q h.
+    replace_has_one_result c.args.inclusion.now c.args.place c.args.cq.now c.in-Some.next q is
+    h) c.in_ok-push-in-Some.ensures.items
 
 pub returns-in-None : goal.returns-in-None
-returns-in-None c = Gains-none (Replaces c.args.inclusion.now c.args.place c.args.cq.now) c.args.out.now.items (rw c.in-None.is at c.in_ok-next.ensures)
+returns-in-None c = Gains-none (Replaces c.args.inclusion.now c.args.place c.args.cq.now)
+    c.args.out.now.items (rw c.in-None.is at c.in_ok-next.ensures)

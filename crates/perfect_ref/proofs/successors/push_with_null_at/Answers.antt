@@ -13,6 +13,9 @@ pub returns : goal.returns
 returns c =
     let d : Atom = atom.Concept (record { 0 = 0 }) (Var 0) in
     on_ok_weaker c.push_replacements.result
-    (Gains-nulls c.args.rules.now c.null_makers.result.now c.args.cq.now c.args.place d c.args.out.now.items _ c.null_makers.ensures.sound c.null_makers.ensures.nulls
-    (subst (λ (atoms : List Atom). (i : Inclusion) → Contains c.args.rules.now i → MakesFor i (get_or atoms c.args.place d) → Contains c.null_makers.result.now i) c.as_slice.ensures c.null_makers.ensures.complete))
+    (Gains-nulls c.args.rules.now c.null_makers.result.now c.args.cq.now c.args.place d
+    c.args.out.now.items _ c.null_makers.ensures.sound c.null_makers.ensures.nulls
+    (subst (λ (atoms : List Atom). (i : Inclusion) → Contains c.args.rules.now i
+    → MakesFor i (get_or atoms c.args.place d)
+    → Contains c.null_makers.result.now i) c.as_slice.ensures c.null_makers.ensures.complete))
     c.push_replacements.ensures

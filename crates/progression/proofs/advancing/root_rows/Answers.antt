@@ -8,10 +8,12 @@ use Rattle.progression.proofs.NextKept.{root_within, root_read}
 use Rattle.progression.proofs.advancing.root_rows.Goals as goal
 
 pub overflow_sub-nodes : goal.overflow_sub-nodes
-overflow_sub-nodes c = let some = root_within c.args.query.now c.nodes-nodes.ensures.valid in let same = ap length c.nodes-nodes.ensures.same in omega (arith, some, same)
+overflow_sub-nodes c = let some = root_within c.args.query.now c.nodes-nodes.ensures.valid in
+    let same = ap length c.nodes-nodes.ensures.same in omega (arith, some, same)
 
 pub bounds-tables-nodes : goal.bounds-tables-nodes
-bounds-tables-nodes c = let some = root_within c.args.query.now c.nodes-nodes.ensures.valid in let same = ap length c.nodes-nodes.ensures.same in omega (arith, some, same, c.requires.long)
+bounds-tables-nodes c = let some = root_within c.args.query.now c.nodes-nodes.ensures.valid in
+    let same = ap length c.nodes-nodes.ensures.same in omega (arith, some, same, c.requires.long)
 
 pub returns : goal.returns
 returns c =
@@ -20,8 +22,14 @@ returns c =
     let some = root_within query c.nodes-nodes.ensures.valid in
     let within : length query.nodes - 1 < length tables = omega (arith, some, c.requires.long) in
     let root = c.index-tables-nodes.result in
-    let place : length c.nodes-nodes.result.now - 1 ≡ length query.nodes - 1 = ap (λ (ns : List Node). length ns - 1) c.nodes-nodes.ensures.same in
-    let is : root ≡ table_at tables (length query.nodes - 1) = c.index-tables-nodes.is ∙ ap (λ (k : ℕ). slice_index_or tables k root) place ∙ get_or_default tables (length query.nodes - 1) root no_table within in
-    root_read query c.args.slots tables c.requires.shape root c.weak_set-weak.result c.tuples_holding.result is within c.weak_set-weak.type_inv
-    (subst (λ (ns : List Node). IsWeakSet ns c.weak_set-weak.result) c.nodes-nodes.ensures.same c.weak_set-weak.ensures)
+    let place : length c.nodes-nodes.result.now - 1 ≡ length query.nodes - 1 =
+    ap (λ (ns : List Node). length ns - 1) c.nodes-nodes.ensures.same in
+    let is : root ≡ table_at tables (length query.nodes - 1) =
+    c.index-tables-nodes.is ∙ ap (λ (k : ℕ).
+    slice_index_or tables k root) place ∙ get_or_default tables (length query.nodes - 1) root
+    no_table within in
+    root_read query c.args.slots tables c.requires.shape root c.weak_set-weak.result
+    c.tuples_holding.result is within c.weak_set-weak.type_inv
+    (subst (λ (ns : List Node). IsWeakSet ns c.weak_set-weak.result) c.nodes-nodes.ensures.same
+    c.weak_set-weak.ensures)
     c.tuples_holding.ensures.arity c.tuples_holding.ensures.rising c.tuples_holding.ensures.exact

@@ -4,4 +4,5 @@ use Rattle.tcq_syntax.specs.Kept.{IsKept}
 use Rattle.progression.proofs.fitting.are_complete.Given as goal
 
 abbrev pub invariant-loop-place : goal.invariant-loop-place
-invariant-loop-place l = (p : ℕ) → p < l.place → IsKept l.query.nodes p → Contains (map (λ entry. entry.0) l.tables) p
+invariant-loop-place l = (p : ℕ) → p < l.place → IsKept l.query.nodes p
+    → Contains (map (λ entry. entry.0) l.tables) p

@@ -10,9 +10,12 @@ pub joined_set-requires-clause-children : goal.joined_set-requires-clause-childr
 joined_set-requires-clause-children c =
     let nodes = c.args.nodes.now in
     let place = c.loop-place.place in
-    let at : slice_get nodes place ≡ Some c.index-nodes-place.result = slice_get_read nodes _ _ _ refl c.loop-place-test.true c.index-nodes-place.is in
-    let le : place ≤ length c.loop-place.sets = omega (arith, c.loop-place-test.true, c.requires.small, c.index-nodes-place.array_long) in
-    HasChildrenBelow-le place (length c.loop-place.sets) le c.index-nodes-place.result (c.requires.table place c.index-nodes-place.result at)
+    let at : slice_get nodes place ≡ Some c.index-nodes-place.result =
+    slice_get_read nodes _ _ _ refl c.loop-place-test.true c.index-nodes-place.is in
+    let le : place ≤ length c.loop-place.sets =
+    omega (arith, c.loop-place-test.true, c.requires.small, c.index-nodes-place.array_long) in
+    HasChildrenBelow-le place (length c.loop-place.sets) le c.index-nodes-place.result
+    (c.requires.table place c.index-nodes-place.result at)
 
 pub loop-place-preserved : goal.loop-place-preserved
 loop-place-preserved c =
@@ -21,9 +24,16 @@ loop-place-preserved c =
     let inv = c.loop-place.invariant in
     let m = c.index-nodes-place.result in
     let k = c.index-nodes-place-in-loop-place.result in
-    let at : slice_get nodes place ≡ Some m = slice_get_read nodes _ _ _ refl c.loop-place-test.true c.index-nodes-place.is in
-    let also : slice_get nodes place ≡ Some k = slice_get_read nodes _ _ _ refl c.loop-place-test.true c.index-nodes-place-in-loop-place.is in
+    let at : slice_get nodes place ≡ Some m =
+    slice_get_read nodes _ _ _ refl c.loop-place-test.true c.index-nodes-place.is in
+    let also : slice_get nodes place ≡ Some k =
+    slice_get_read nodes _ _ _ refl c.loop-place-test.true
+    c.index-nodes-place-in-loop-place.is in
     record {
-      number = c.next_number-number.ensures ∙ ap (λ (n : ℕ). n + cond (is_future k) 1 0) inv.number ∙ sym (number_at-next nodes place k also);
-      sets = AreFutureSets-step nodes c.requires.table place m at c.loop-place.number inv.number c.loop-place.sets _ _ refl (omega (arith, c.loop-place-test.true, c.requires.small, c.index-nodes-place.array_long)) inv.sets c.joined_set.result c.joined_set.ensures refl;
+      number = c.next_number-number.ensures ∙ ap (λ (n : ℕ).
+          n + cond (is_future k) 1 0) inv.number ∙ sym (number_at-next nodes place k also);
+      sets = AreFutureSets-step nodes c.requires.table place m at c.loop-place.number inv.number
+          c.loop-place.sets _ _ refl
+          (omega (arith, c.loop-place-test.true, c.requires.small, c.index-nodes-place.array_long))
+          inv.sets c.joined_set.result c.joined_set.ensures refl;
     }

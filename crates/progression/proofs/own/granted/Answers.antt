@@ -5,4 +5,7 @@ use Rattle.progression.proofs.own.granted.Goals as goal
 
 pub returns-clause-table : goal.returns-clause-table
 returns-clause-table c =
-    Tabulates-filled c.args.slots c.args.arity (is_inside (2 ^ c.args.number)) c.in_ok-chain.chain c.in_ok-link.link c.args.store.now c.intern.new.self c.in_ok-chain.ensures.minimal c.in_ok-link.ensures.link c.in_ok-link.ensures.ok c.fill.result c.fill.ensures.slots c.fill.ensures.arity c.fill.ensures.same
+    Tabulates-filled c.args.slots c.args.arity (is_inside (2 ^ c.args.number))
+    c.in_ok-antichain.antichain c.in_ok-link.link c.args.store.now c.intern.new.self
+    c.in_ok-antichain.ensures.minimal c.in_ok-link.ensures.link c.in_ok-link.ensures.ok
+    c.fill.result c.fill.ensures.slots c.fill.ensures.arity c.fill.ensures.same

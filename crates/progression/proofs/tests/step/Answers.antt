@@ -7,5 +7,8 @@ use Rattle.progression.proofs.tests.step.Goals as goal
 
 pub advance-requires-clause-leaves : goal.advance-requires-clause-leaves
 advance-requires-clause-leaves c =
-    subst (λ (nodes : List Node). AllZip IsOverLeaf (leaves_of nodes) (c.in_ok-server.server ∷ c.in_ok-failed.failed ∷ [])) (sym c.requires.nodes)
-    (c.in_ok-server.ensures (instances (record { 0 = 0 })) refl, (c.in_ok-failed.ensures (instances (record { 0 = 1 })) refl, tt))
+    subst (λ (nodes : List Node). AllZip IsOverLeaf (leaves_of nodes)
+    (c.in_ok-server.server ∷ c.in_ok-failed.failed ∷ [])) (sym c.requires.nodes) (
+      c.in_ok-server.ensures (instances (record { 0 = 0 })) refl,
+      (c.in_ok-failed.ensures (instances (record { 0 = 1 })) refl, tt),
+    )

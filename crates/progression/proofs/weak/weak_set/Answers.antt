@@ -13,11 +13,15 @@ loop-node-preserved c =
     let i = c.loop-node.node-index in
     let inv = c.loop-node.invariant in
     let m = c.node-item.result in
-    let at : slice_get nodes i ≡ Some m = slice_get_read nodes _ _ _ refl c.loop-node-test.true c.node-item.is in
+    let at : slice_get nodes i ≡ Some m =
+    slice_get_read nodes _ _ _ refl c.loop-node-test.true c.node-item.is in
     record {
-      number = c.next_number-number.ensures ∙ ap (λ (k : ℕ). k + cond (is_future m) 1 0) inv.number ∙ sym (number_at-next nodes i m at);
-      weak = IsWeakTo-step nodes i c.loop-node.set inv.weak m at c.with_weak-set.result (c.with_weak-set.ensures ∙ ap (λ (k : ℕ). with_weak c.loop-node.set k m) inv.number);
+      number = c.next_number-number.ensures ∙ ap (λ (k : ℕ).
+          k + cond (is_future m) 1 0) inv.number ∙ sym (number_at-next nodes i m at);
+      weak = IsWeakTo-step nodes i c.loop-node.set inv.weak m at c.with_weak-set.result
+          (c.with_weak-set.ensures ∙ ap (λ (k : ℕ). with_weak c.loop-node.set k m) inv.number);
     }
 
 pub returns : goal.returns
-returns c = IsWeakTo-end c.args.nodes.now c.loop-node.node-index c.loop-node.set c.loop-node-test.false c.loop-node.invariant.weak
+returns c = IsWeakTo-end c.args.nodes.now c.loop-node.node-index c.loop-node.set
+    c.loop-node-test.false c.loop-node.invariant.weak

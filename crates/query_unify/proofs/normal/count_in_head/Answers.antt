@@ -6,4 +6,5 @@ use Rattle.query_unify.proofs.normal.count_in_head.Goals as goal
 pub loop-term-preserved : goal.loop-term-preserved
 loop-term-preserved c =
     ap distinct (sym (head_more c.args.head.now c.loop-term.term-index _ c.loop-term-test.true))
-    ∙ c.in_ok-count.ensures (variables_of (take c.loop-term.term-index c.args.head.now)) c.loop-term.invariant
+    ∙ c.in_ok-count.ensures (variables_of (take c.loop-term.term-index c.args.head.now))
+    c.loop-term.invariant

@@ -9,6 +9,11 @@ returns-in-Some-pair_in c =
     let fresh : (v : ℕ) × IsNew v c.args.cq.now = new_variable c.args.cq.now in (
       fresh.0,
       fresh.1,
-      subst (λ (i : Inclusion). Becomes i c.args.cq.now fresh.0 c.args.atom.now c.role_atom.result) (sym c.in-Roles.is)
-          (c.in-Some-pair_in.x, c.in-Some-pair_in.y, c.in-Some-pair_in.ensures, c.role_atom.ensures),
+      subst (λ (i : Inclusion). Becomes i c.args.cq.now fresh.0 c.args.atom.now c.role_atom.result)
+          (sym c.in-Roles.is) (
+            c.in-Some-pair_in.x,
+            c.in-Some-pair_in.y,
+            c.in-Some-pair_in.ensures,
+            c.role_atom.ensures,
+          ),
     )

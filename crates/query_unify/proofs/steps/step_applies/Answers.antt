@@ -13,6 +13,11 @@ pub returns : goal.returns
 returns c =
     let q : Cq = c.args.cq.now in
     let d : Atom = atom.Concept (record { 0 = 0 }) (Var 0) in
-    subst (λ (b : Bool). IsTrue b ↔ ((q' : Cq) × Replaces c.args.inclusion.now c.args.place q q')) (sym c.is_some.ensures)
+    subst (λ (b : Bool). IsTrue b ↔ ((q' : Cq)
+    × Replaces c.args.inclusion.now c.args.place q q')) (sym c.is_some.ensures)
     (applies c.args.inclusion.now c.args.place q d c.replacement.result c.requires.within
-    (subst (λ (atoms : List Atom). MatchOption c.replacement.result ((new : ℕ) (a : Atom) → Becomes c.args.inclusion.now q new (get_or atoms c.args.place d) a → ⊥) (λ a. (new : ℕ) × IsNew new q × Becomes c.args.inclusion.now q new (get_or atoms c.args.place d) a)) c.as_slice.ensures c.replacement.ensures))
+    (subst (λ (atoms : List Atom). MatchOption c.replacement.result ((new : ℕ) (a : Atom)
+    → Becomes c.args.inclusion.now q new (get_or atoms c.args.place d) a
+    → ⊥) (λ a. (new : ℕ) × IsNew new q
+    × Becomes c.args.inclusion.now q new (get_or atoms c.args.place d) a)) c.as_slice.ensures
+    c.replacement.ensures))

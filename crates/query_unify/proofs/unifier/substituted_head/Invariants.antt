@@ -4,4 +4,5 @@ use Rattle.query_unify.specs.Bindings.{both_images}
 use Rattle.query_unify.proofs.unifier.substituted_head.Given as goal
 
 abbrev pub invariant-loop-term : goal.invariant-loop-term
-invariant-loop-term l = l.terms.items ≡ map (applied (both_images l.bindings)) (take l.term-index l.head)
+invariant-loop-term l = l.terms.items
+    ≡ map (applied (both_images l.bindings)) (take l.term-index l.head)

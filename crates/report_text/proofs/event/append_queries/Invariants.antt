@@ -7,5 +7,7 @@ use Rattle.report_text.proofs.event.append_queries.Given as goal
 abbrev pub invariant-loop-place : goal.invariant-loop-place
 invariant-loop-place l =
     (take (length l.initial.out.items) l.out.items ≡ l.initial.out.items)
-    × (l.out.items ++ flat_map (line_in l.told.form l.ontology l.queries) (query_items l.told.line l.told.number l.kept l.place (drop l.place l.answers))
-    ≡ l.initial.out.items ++ flat_map (line_in l.told.form l.ontology l.queries) (query_items l.told.line l.told.number l.kept 0 l.answers))
+    × (l.out.items ++ flat_map (line_in l.told.form l.ontology l.queries)
+    (query_items l.told.line l.told.number l.kept l.place (drop l.place l.answers))
+    ≡ l.initial.out.items ++ flat_map (line_in l.told.form l.ontology l.queries)
+    (query_items l.told.line l.told.number l.kept 0 l.answers))

@@ -3,4 +3,5 @@ use Rattle.report_text.specs.Lines.{row_text}
 use Rattle.report_text.proofs.line.append_row.Given as goal
 
 abbrev pub invariant-loop-individual : goal.invariant-loop-individual
-invariant-loop-individual l = l.out.items ≡ l.initial.out.items ++ row_text l.ontology.individuals (take l.individual-index l.row)
+invariant-loop-individual l = l.out.items
+    ≡ l.initial.out.items ++ row_text l.ontology.individuals (take l.individual-index l.row)

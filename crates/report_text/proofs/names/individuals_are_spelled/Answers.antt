@@ -6,4 +6,6 @@ use Rattle.report_text.proofs.names.individuals_are_spelled.Goals as goal
 pub returns : goal.returns
 returns c =
     let o = c.args.ontology.now in
-    All-weaker IsDeclarable IsName (λ name is. is.0) o.individuals (All-back IsDeclarable o.roles o.individuals (All-back IsDeclarable o.concepts _ c.count-count.ensures.sound.spelled))
+    All-weaker IsDeclarable IsName (λ name is.
+    is.0) o.individuals (All-back IsDeclarable o.roles o.individuals
+    (All-back IsDeclarable o.concepts _ c.count-count.ensures.sound.spelled))

@@ -5,4 +5,5 @@ use Rattle.report_text.proofs.ObjectTexts.{clash_object_is}
 use Rattle.report_text.proofs.object.append_clash.Goals as goal
 
 pub returns-clause-ok : goal.returns-clause-ok
-returns-clause-ok c = rw (← clash_object_is c.args.line c.args.clash (string c.args.word.now)) (grind (arith, common_steps))
+returns-clause-ok c = rw (← clash_object_is c.args.line c.args.clash (string c.args.word.now))
+    (grind (arith, common_steps))

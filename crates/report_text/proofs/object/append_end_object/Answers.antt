@@ -4,4 +4,5 @@ use Rattle.report_text.proofs.ObjectTexts.{end_object_is}
 use Rattle.report_text.proofs.object.append_end_object.Goals as goal
 
 pub returns-clause-ok : goal.returns-clause-ok
-returns-clause-ok c = rw (← end_object_is c.args.accepted c.args.refused) (grind (arith, common_steps))
+returns-clause-ok c = rw (← end_object_is c.args.accepted c.args.refused)
+    (grind (arith, common_steps))

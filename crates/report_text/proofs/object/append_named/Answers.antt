@@ -5,4 +5,6 @@ use Rattle.report_text.proofs.ObjectTexts.{named_object_is}
 use Rattle.report_text.proofs.object.append_named.Goals as goal
 
 pub returns-clause-ok : goal.returns-clause-ok
-returns-clause-ok c = rw (← named_object_is c.args.line (string c.args.name.now) (string c.args.word.now)) (grind (arith, common_steps))
+returns-clause-ok c =
+    rw (← named_object_is c.args.line (string c.args.name.now) (string c.args.word.now))
+    (grind (arith, common_steps))

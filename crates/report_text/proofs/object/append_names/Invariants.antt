@@ -8,4 +8,7 @@ use Rattle.report_text.proofs.object.append_names.Given as goal
 abbrev pub invariant-loop-place : goal.invariant-loop-place
 invariant-loop-place l =
     (take (length l.initial.out.items) l.out.items ≡ l.initial.out.items)
-    × (l.out.items ++ items_text (nat_lt 0 l.place) (items_of (map (name_data l.ontology.individuals) (drop l.place l.row))) ≡ l.initial.out.items ++ items_text false (items_of (map (name_data l.ontology.individuals) l.row)))
+    × (l.out.items ++ items_text (nat_lt 0 l.place)
+    (items_of (map (name_data l.ontology.individuals) (drop l.place l.row)))
+    ≡ l.initial.out.items ++ items_text false
+    (items_of (map (name_data l.ontology.individuals) l.row)))

@@ -5,4 +5,5 @@ use Rattle.report_text.proofs.ObjectTexts.{plain_object_is}
 use Rattle.report_text.proofs.object.append_plain.Goals as goal
 
 pub returns-clause-ok : goal.returns-clause-ok
-returns-clause-ok c = rw (← plain_object_is c.args.line (string c.args.word.now)) (grind (arith, common_steps))
+returns-clause-ok c = rw (← plain_object_is c.args.line (string c.args.word.now))
+    (grind (arith, common_steps))

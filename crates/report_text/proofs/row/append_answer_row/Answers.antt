@@ -9,7 +9,10 @@ returns-clause-ok c =
     let names = c.args.ontology.now.individuals in
     on_ok_weaker c.append_detail.result
     (λ is. is
-    ∙ ap (λ t. c.args.out.now.items ++ (t ++ answer_detail names c.args.row.now)) (c.as_slice.ensures.value ∙ c.answer_front_of-front.ensures)
+    ∙ ap (λ t. c.args.out.now.items ++ (t ++ answer_detail names c.args.row.now))
+    (c.as_slice.ensures.value ∙ c.answer_front_of-front.ensures)
     ∙ ap (λ t. c.args.out.now.items ++ t)
-    (answer_row_is names c.args.line c.args.number c.args.query.now c.args.row.now c.ranges.line.fits c.ranges.number.fits c.requires.spelled c.individuals_are_spelled.ensures c.requires.named))
+    (answer_row_is names c.args.line c.args.number c.args.query.now c.args.row.now
+    c.ranges.line.fits c.ranges.number.fits c.requires.spelled c.individuals_are_spelled.ensures
+    c.requires.named))
     c.append_detail.ensures.ok

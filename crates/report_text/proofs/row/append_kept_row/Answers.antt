@@ -4,4 +4,6 @@ use Rattle.report_text.proofs.RowTexts.{kept_row_is}
 use Rattle.report_text.proofs.row.append_kept_row.Goals as goal
 
 pub returns-clause-ok : goal.returns-clause-ok
-returns-clause-ok c = rw (← kept_row_is c.args.line c.args.size c.args.query.now c.ranges.line.fits c.ranges.size.fits c.requires) (grind (arith, common_steps))
+returns-clause-ok c =
+    rw (← kept_row_is c.args.line c.args.size c.args.query.now c.ranges.line.fits c.ranges.size.fits
+    c.requires) (grind (arith, common_steps))

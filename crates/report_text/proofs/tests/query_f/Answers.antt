@@ -14,7 +14,14 @@ no_leaf zero q is = cc
 no_leaf (suc place) q is = cc
 
 is_tcq : IsTcq 1 (node.True ∷ [])
-is_tcq = record { tree = (True, refl); few_nodes = omega arith; few_futures = omega arith; few_variables = omega arith; leaves = no_leaf }
+is_tcq = record {
+  tree = (True, refl);
+  few_nodes = omega arith;
+  few_futures =
+      omega arith;
+  few_variables = omega arith;
+  leaves = no_leaf;
+}
 
 pub new-requires-2 : goal.new-requires-2
 new-requires-2 c = subst (IsTcq 1) (sym c.in_ok-nodes.ensures.items) is_tcq

@@ -10,5 +10,6 @@ loop-step-init c = none_taken c.args.ontology.now.inclusions c.args.run.now.item
 
 pub loop-step-preserved : goal.loop-step-preserved
 loop-step-preserved c =
-    one_taken c.args.ontology.now.inclusions c.args.run.now.items c.args.steps.now c.loop-step.step-index c.loop-step.run.items c.loop-step.invariant _ c.loop-step-test.true _
+    one_taken c.args.ontology.now.inclusions c.args.run.now.items c.args.steps.now
+    c.loop-step.step-index c.loop-step.run.items c.loop-step.invariant _ c.loop-step-test.true _
     c.in_ok-take_step.ensures.run (c.in_ok-take_step.ensures.makes.0 c.if-not-branch.false)

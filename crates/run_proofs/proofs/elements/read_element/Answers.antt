@@ -5,5 +5,10 @@ use Rattle.run_proofs.proofs.Names.{no_name_is_marked}
 use Rattle.run_proofs.proofs.elements.read_element.Goals as goal
 
 pub returns-in-None-read_number : goal.returns-in-None-read_number
-returns-in-None-read_number c (ind_element i) writable is = no_name_is_marked c.args.ontology.now i.0 c.in-Some.digits.now c.count-count.ensures.sound writable (sym is ∙ c.in-Some.ensures)
-returns-in-None-read_number c (Null number) writable is = c.in-None-read_number.ensures number writable (append_cancel_left (42 ∷ []) c.in-Some.digits.now (decimal number) (sym c.in-Some.ensures ∙ is))
+returns-in-None-read_number c (ind_element i) writable is =
+    no_name_is_marked c.args.ontology.now i.0 c.in-Some.digits.now c.count-count.ensures.sound
+    writable (sym is ∙ c.in-Some.ensures)
+returns-in-None-read_number c (Null number) writable is =
+    c.in-None-read_number.ensures number writable
+    (append_cancel_left (42 ∷ []) c.in-Some.digits.now (decimal number)
+    (sym c.in-Some.ensures ∙ is))

@@ -11,14 +11,25 @@ pub returns-then-not-holds : goal.returns-then-not-holds
 returns-then-not-holds c = (
   λ yes. absurd (cc),
   λ all.
-      let yes : c.holds.result ≡ true = c.holds.ensures.1 (subst (Contains c.args.run.now) (sym c.fact_of-fact.ensures) (all c.loop-atom.atom-index _ c.loop-atom-test.true)) in
+      let yes : c.holds.result ≡ true =
+      c.holds.ensures.1 (subst (Contains c.args.run.now) (sym c.fact_of-fact.ensures)
+      (all c.loop-atom.atom-index _ c.loop-atom-test.true)) in
       cc,
 )
 
 pub loop-atom-preserved : goal.loop-atom-preserved
 loop-atom-preserved c =
     let here = c.holds.ensures.0 c.if-not-holds.false in
-    All-more (λ a. Contains c.args.run.now (atom_at (assigned c.args.variables.now c.args.elements.now) a)) c.args.body.now c.loop-atom.atom-index _ c.loop-atom-test.true c.loop-atom.invariant (rw c.fact_of-fact.ensures at here)
+    All-more (λ a. Contains c.args.run.now
+    (atom_at (assigned c.args.variables.now c.args.elements.now) a)) c.args.body.now
+    c.loop-atom.atom-index _ c.loop-atom-test.true c.loop-atom.invariant
+    (rw c.fact_of-fact.ensures at here)
 
 pub returns : goal.returns
-returns c = (λ yes. subst (λ (atoms : List Atom). Match atoms c.args.run.now (assigned c.args.variables.now c.args.elements.now)) (take_all c.loop-atom.atom-index c.args.body.now c.loop-atom-test.false) c.loop-atom.invariant, λ all. refl)
+returns c = (
+  λ yes. subst (λ (atoms : List Atom).
+      Match atoms c.args.run.now (assigned c.args.variables.now c.args.elements.now))
+      (take_all c.loop-atom.atom-index c.args.body.now c.loop-atom-test.false)
+      c.loop-atom.invariant,
+  λ all. refl,
+)

@@ -5,4 +5,5 @@ use Rattle.run_proofs.specs.Assigned.{assigned}
 use Rattle.run_proofs.proofs.matching.is_row.Given as goal
 
 abbrev pub invariant-loop-place : goal.invariant-loop-place
-invariant-loop-place l = map (term_at (assigned l.variables l.elements)) (take l.place l.head) ≡ map ind_element (take l.place l.row)
+invariant-loop-place l = map (term_at (assigned l.variables l.elements)) (take l.place l.head)
+    ≡ map ind_element (take l.place l.row)

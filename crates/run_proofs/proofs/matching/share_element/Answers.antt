@@ -6,6 +6,8 @@ pub returns-in-Some-Some : goal.returns-in-Some-Some
 returns-in-Some-Some c =
     let first = sym c.element_in.ensures ∙ c.in-Some-Some.is-0 in
     let second = sym c.element_in-2.ensures ∙ c.in-Some-Some.is-1 in (
-      λ yes. shared_element c.args.one.now c.args.other.now c.args.left.now c.args.right.now c.in-Some-Some.first c.in-Some-Some.second first second (c.is_same.ensures.0 yes),
-      λ sides. c.is_same.ensures.1 (element_shared c.args.one.now c.args.other.now c.args.left.now c.args.right.now c.in-Some-Some.first c.in-Some-Some.second first second sides),
+      λ yes. shared_element c.args.one.now c.args.other.now c.args.left.now c.args.right.now
+          c.in-Some-Some.first c.in-Some-Some.second first second (c.is_same.ensures.0 yes),
+      λ sides. c.is_same.ensures.1 (element_shared c.args.one.now c.args.other.now c.args.left.now
+          c.args.right.now c.in-Some-Some.first c.in-Some-Some.second first second sides),
     )

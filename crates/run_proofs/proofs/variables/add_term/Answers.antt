@@ -7,7 +7,9 @@ pub returns-in-Var-clause-member : goal.returns-in-Var-clause-member
 returns-in-Var-clause-member c =
     on_ok_weaker c.add_number.result
     (λ members v. rw c.in-Var.is (
-      λ there. number_of_variable (Contains c.args.numbers.now.items) c.in-Var.number v ((members v).0 there),
-      λ has. (members v).1 (variable_of_number (Contains c.args.numbers.now.items) c.in-Var.number v has),
+      λ there. number_of_variable (Contains c.args.numbers.now.items) c.in-Var.number v
+          ((members v).0 there),
+      λ has. (members v).1 (variable_of_number (Contains c.args.numbers.now.items) c.in-Var.number v
+          has),
     ))
     c.add_number.ensures.member

@@ -5,4 +5,6 @@ use Rattle.saturate.specs.Implied.{IsMembership}
 use Rattle.saturate.proofs.saturator.add_memberships.Given as goal
 
 abbrev pub invariant-loop-concept : goal.invariant-loop-concept
-invariant-loop-concept l = Absorbs (Seen l.sight (IsMembership (take l.concept-index l.concepts) l.element)) l.initial.found.keys l.found.keys
+invariant-loop-concept l =
+    Absorbs (Seen l.sight (IsMembership (take l.concept-index l.concepts) l.element))
+    l.initial.found.keys l.found.keys

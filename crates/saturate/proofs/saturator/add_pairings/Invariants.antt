@@ -5,4 +5,6 @@ use Rattle.saturate.specs.Implied.{IsPairing}
 use Rattle.saturate.proofs.saturator.add_pairings.Given as goal
 
 abbrev pub invariant-loop-role : goal.invariant-loop-role
-invariant-loop-role l = Absorbs (Seen l.sight (IsPairing (take l.role-index l.roles) l.first l.second)) l.initial.found.keys l.found.keys
+invariant-loop-role l =
+    Absorbs (Seen l.sight (IsPairing (take l.role-index l.roles) l.first l.second))
+    l.initial.found.keys l.found.keys

@@ -15,9 +15,14 @@ loop-atom-preserved c =
     let body = c.args.body.now in
     let i = c.loop-atom.atom-index in
     let kept = c.in_ok-see_atom.ensures.kept in (
-      kept_both c.args.sight.now c.loop-atom.sight c.see_atom.new.sight kept c.loop-atom.invariant.0,
-      All-more (SeesAtom c.see_atom.new.sight) body i first c.loop-atom-test.true (body_kept c.args.sight.now c.loop-atom.sight c.see_atom.new.sight kept (take i body) c.loop-atom.invariant.1) c.in_ok-see_atom.ensures.seen,
+      kept_both c.args.sight.now c.loop-atom.sight c.see_atom.new.sight kept
+          c.loop-atom.invariant.0,
+      All-more (SeesAtom c.see_atom.new.sight) body i first c.loop-atom-test.true
+          (body_kept c.args.sight.now c.loop-atom.sight c.see_atom.new.sight kept (take i body)
+          c.loop-atom.invariant.1) c.in_ok-see_atom.ensures.seen,
     )
 
 pub returns-clause-seen : goal.returns-clause-seen
-returns-clause-seen c = subst (All (SeesAtom c.loop-atom.sight)) (take_all c.loop-atom.atom-index c.args.body.now (omega (arith, c.loop-atom-test.false))) c.loop-atom.invariant.1
+returns-clause-seen c = subst (All (SeesAtom c.loop-atom.sight))
+    (take_all c.loop-atom.atom-index c.args.body.now (omega (arith, c.loop-atom-test.false)))
+    c.loop-atom.invariant.1

@@ -1,4 +1,5 @@
-use Rattle.std.proofs.Common.{◌≡◌, ℕ, ◌+◌, ◌++◌, ◌∷◌, [], List, Vec, Global, length, sym, ◌∙◌, ap, subst, arith, length-append}
+use Rattle.std.proofs.Common.{◌≡◌, ℕ, ◌+◌, ◌++◌, ◌∷◌, [], List, Vec, Global, length, sym, ◌∙◌, ap}
+use Rattle.std.proofs.Common.{subst, arith, length-append}
 use Rattle.dl_syntax.specs.declared.ontology.Role.{Role}
 use Rattle.dl_syntax.specs.declared.ontology.Basic.{Basic}
 use Rattle.worklist.specs.Reach.{IsClosure}
@@ -8,15 +9,23 @@ use Rattle.saturate.proofs.tables.role_table.Goals as goal
 
 pub loop-number-preserved : goal.loop-number-preserved
 loop-number-preserved c =
-    let items : c.push.new.self.items ≡ c.loop-number.table.items ++ c.in_ok-roles.roles ∷ [] = c.in_ok-push.ensures.items in (
-      ap length items ∙ length-append c.loop-number.table.items (c.in_ok-roles.roles ∷ []) ∙ ap (λ (n : ℕ). n + 1) c.loop-number.invariant.0,
-      subst (λ (table : List (Vec Role Global)). HasRoles c.args.graph.now (c.loop-number.number + 1) table) (sym items)
-          (roles-row c.args.graph.now c.loop-number.number c.loop-number.table.items c.in_ok-roles.roles c.in_ok-above.above.keys c.loop-number.invariant.0 c.loop-number.invariant.1
-          (subst (λ (b : Basic). IsClosure (Along c.args.graph.now) b c.in_ok-above.above.keys) c.source.ensures c.in_ok-above.ensures)
-          (subst (λ (xs : List Basic). RolesOf xs c.in_ok-roles.roles.items) c.as_slice.ensures.keys c.in_ok-roles.ensures)),
+    let items : c.push.new.self.items ≡ c.loop-number.table.items ++ c.in_ok-roles.roles ∷ [] =
+    c.in_ok-push.ensures.items in (
+      ap length items ∙ length-append c.loop-number.table.items (c.in_ok-roles.roles ∷ []) ∙ ap
+          (λ (n : ℕ). n + 1) c.loop-number.invariant.0,
+      subst (λ (table : List (Vec Role Global)).
+          HasRoles c.args.graph.now (c.loop-number.number + 1) table) (sym items)
+          (roles-row c.args.graph.now c.loop-number.number c.loop-number.table.items
+          c.in_ok-roles.roles c.in_ok-above.above.keys c.loop-number.invariant.0
+          c.loop-number.invariant.1
+          (subst (λ (b : Basic). IsClosure (Along c.args.graph.now) b c.in_ok-above.above.keys)
+          c.source.ensures c.in_ok-above.ensures)
+          (subst (λ (xs : List Basic). RolesOf xs c.in_ok-roles.roles.items) c.as_slice.ensures.keys
+          c.in_ok-roles.ensures)),
     )
 
 pub returns-clause-exact : goal.returns-clause-exact
 returns-clause-exact c =
     let all : c.loop-number.number ≡ c.args.count = omega arith in
-    subst (λ (n : ℕ). HasRoles c.args.graph.now n c.loop-number.table.items) all c.loop-number.invariant.1
+    subst (λ (n : ℕ). HasRoles c.args.graph.now n c.loop-number.table.items) all
+    c.loop-number.invariant.1

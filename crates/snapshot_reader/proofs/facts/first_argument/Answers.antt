@@ -6,7 +6,8 @@ use Rattle.snapshot_reader.proofs.FactsWritten.{no_first, no_close_or_comma, fir
 use Rattle.snapshot_reader.proofs.facts.first_argument.Goals as goal
 
 pub returns-in_default : goal.returns-in_default
-returns-in_default c = λ o. no_first c.args.predicate.now o (symbols_from c.args.line.now c.args.from) c.in_default.ensures
+returns-in_default c = λ o. no_first c.args.predicate.now o
+    (symbols_from c.args.line.now c.args.from) c.in_default.ensures
 
 pub returns-in-Some-mark_of : goal.returns-in-Some-mark_of
 returns-in-Some-mark_of c =
@@ -14,9 +15,13 @@ returns-in-Some-mark_of c =
     let p = c.args.predicate.now in
     let a = c.in-Some.first.now in
     λ o. (
-      ap (λ (xs : List Symbol). facts_written (token Name p ∷ token Open o ∷ xs)) c.in-Some.ensures.0
-          ∙ ap (λ (xs : List Symbol). facts_written (token Name p ∷ token Open o ∷ token Name a ∷ xs)) c.in-Some-mark_of.ensures.0
-          ∙ first_unary p o a c.in-Some-mark_of.field-0-0.now (symbols_from line c.in-Some-mark_of.end),
+      ap (λ (xs : List Symbol). facts_written (token Name p ∷ token Open o ∷ xs))
+          c.in-Some.ensures.0
+          ∙ ap (λ (xs : List Symbol).
+          facts_written (token Name p ∷ token Open o ∷ token Name a ∷ xs))
+          c.in-Some-mark_of.ensures.0
+          ∙ first_unary p o a c.in-Some-mark_of.field-0-0.now
+          (symbols_from line c.in-Some-mark_of.end),
       omega (arith, c.in-Some.ensures.1, c.in-Some-mark_of.ensures.1),
       c.in-Some-mark_of.ensures.2,
     )
@@ -27,9 +32,12 @@ returns-in-Some-mark_of-2 c =
     let p = c.args.predicate.now in
     let a = c.in-Some.first.now in
     let e = c.in-Some-mark_of-2.field-0-0.now in
-    λ o. earlier (token Name p ∷ token Open o ∷ []) (token Name p ∷ token Open o ∷ token Name a ∷ token Comma e ∷ []) line c.args.from c.in-Some-mark_of-2.end c.second_argument.result
+    λ o. earlier (token Name p ∷ token Open o ∷ [])
+    (token Name p ∷ token Open o ∷ token Name a ∷ token Comma e ∷ []) line c.args.from
+    c.in-Some-mark_of-2.end c.second_argument.result
     (ap (λ (xs : List Symbol). facts_written (token Name p ∷ token Open o ∷ xs)) c.in-Some.ensures.0
-    ∙ ap (λ (xs : List Symbol). facts_written (token Name p ∷ token Open o ∷ token Name a ∷ xs)) c.in-Some-mark_of-2.ensures.0)
+    ∙ ap (λ (xs : List Symbol). facts_written (token Name p ∷ token Open o ∷ token Name a ∷ xs))
+    c.in-Some-mark_of-2.ensures.0)
     (omega (arith, c.in-Some.ensures.1, c.in-Some-mark_of-2.ensures.1))
     (c.second_argument.ensures o e)
 
@@ -40,4 +48,5 @@ returns-in-None c =
     let a = c.in-Some.first.now in
     λ o.
     ap (λ (xs : List Symbol). facts_written (token Name p ∷ token Open o ∷ xs)) c.in-Some.ensures.0
-    ∙ no_close_or_comma p o a (symbols_from line c.in-Some.end) c.in_default-mark_of.ensures c.in-None.ensures
+    ∙ no_close_or_comma p o a (symbols_from line c.in-Some.end) c.in_default-mark_of.ensures
+    c.in-None.ensures

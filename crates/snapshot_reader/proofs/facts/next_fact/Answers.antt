@@ -10,8 +10,10 @@ returns-in-Some-mark_of c =
     let line = c.args.line.now in
     let p = c.in-Some.predicate.now in
     let o = c.in-Some-mark_of.field-0-0.now in
-    earlier [] (token Name p ∷ token Open o ∷ []) line c.args.from c.in-Some-mark_of.end c.first_argument.result
-    (ap facts_written c.in-Some.ensures.0 ∙ ap (λ (xs : List Symbol). facts_written (token Name p ∷ xs)) c.in-Some-mark_of.ensures.0)
+    earlier [] (token Name p ∷ token Open o ∷ []) line c.args.from c.in-Some-mark_of.end
+    c.first_argument.result
+    (ap facts_written c.in-Some.ensures.0 ∙ ap (λ (xs : List Symbol).
+    facts_written (token Name p ∷ xs)) c.in-Some-mark_of.ensures.0)
     (omega (arith, c.in-Some.ensures.1, c.in-Some-mark_of.ensures.1))
     (c.first_argument.ensures o)
 
@@ -19,4 +21,5 @@ pub returns-in-None : goal.returns-in-None
 returns-in-None c =
     let line = c.args.line.now in
     let p = c.in-Some.predicate.now in
-    ap facts_written c.in-Some.ensures.0 ∙ no_open p (symbols_from line c.in-Some.end) c.in-None.ensures
+    ap facts_written c.in-Some.ensures.0 ∙ no_open p (symbols_from line c.in-Some.end)
+    c.in-None.ensures

@@ -12,14 +12,18 @@ pub returns-in-Token : goal.returns-in-Token
 returns-in-Token c = λ o.
     let line = c.args.line.now in
     let t = c.in-Token.field-0 in
-    let first : symbols_from line 0 ≡ token t.kind t.text.now ∷ symbols_from line (behind t) = ap symbols c.in-Token.ensures.0 in
-    ap (λ (l : Line). line_says o l) (ap symbols_write first ∙ no_word (token t.kind t.text.now) (symbols_from line (behind t)) (subst (BeginsNot Name) first c.requires))
+    let first : symbols_from line 0 ≡ token t.kind t.text.now ∷ symbols_from line (behind t) =
+    ap symbols c.in-Token.ensures.0 in
+    ap (λ (l : Line). line_says o l) (ap symbols_write first ∙ no_word (token t.kind t.text.now)
+    (symbols_from line (behind t)) (subst (BeginsNot Name) first c.requires))
 
 pub returns-in-Fault : goal.returns-in-Fault
 returns-in-Fault c = λ o.
     let line = c.args.line.now in
     let first : symbols_from line 0 ≡ at_fault ∷ [] = ap symbols c.in-Fault.ensures in
-    ap (λ (l : Line). line_says o l) (ap symbols_write first ∙ no_word at_fault [] (subst (BeginsNot Name) first c.requires))
+    ap (λ (l : Line). line_says o l) (ap symbols_write first ∙ no_word at_fault []
+    (subst (BeginsNot Name) first c.requires))
 
 pub returns-in-End : goal.returns-in-End
-returns-in-End c = λ o. ap (λ (l : Line). line_says o l) (ap symbols_write (ap symbols c.in-End.ensures) ∙ blank_line)
+returns-in-End c = λ o. ap (λ (l : Line). line_says o l)
+    (ap symbols_write (ap symbols c.in-End.ensures) ∙ blank_line)

@@ -11,12 +11,14 @@ returns-then-ne c =
     let line = c.args.line.now in
     let word = c.in-Some.word.now in
     ap (λ (l : Line). line_says c.args.ontology.now l)
-    (ap symbols_write c.in-Some.ensures.0 ∙ other_word word (symbols_from line c.in-Some.end) (is_other word c.as_slice.result.now c.as_slice.ensures c.if-ne.ensures))
+    (ap symbols_write c.in-Some.ensures.0 ∙ other_word word (symbols_from line c.in-Some.end)
+    (is_other word c.as_slice.result.now c.as_slice.ensures c.if-ne.ensures))
 
 pub returns : goal.returns
 returns c =
     let line = c.args.line.now in
     let word = c.in-Some.word.now in
     subst (λ (l : Line). Tells c.read_facts.result (line_says c.args.ontology.now l))
-    (sym (ap symbols_write c.in-Some.ensures.0 ∙ snap_word word (symbols_from line c.in-Some.end) (is_snap word c.as_slice.result.now c.as_slice.ensures c.if-ne.ensures)))
+    (sym (ap symbols_write c.in-Some.ensures.0 ∙ snap_word word (symbols_from line c.in-Some.end)
+    (is_snap word c.as_slice.result.now c.as_slice.ensures c.if-ne.ensures)))
     c.read_facts.ensures

@@ -15,6 +15,8 @@ loop-preserved c =
     let other : k ≡ codes "facts" → ⊥ = λ h. c.in-Some-Key.not-facts h in
     let done = c.loop.invariant.0 in (
       done ++ m ∷ [],
-      c.loop.invariant.1 ∙ ap (members_before done) (first ∙ ap (λ ts. json.key k ∷ ts) value.2) ∙ sym (one_more_member done m c.pass_value.new.reader),
+      c.loop.invariant.1 ∙ ap (members_before done)
+          (first ∙ ap (λ ts. json.key k ∷ ts) value.2) ∙ sym
+          (one_more_member done m c.pass_value.new.reader),
       All-push IsPassed done m c.loop.invariant.2 (other, value.3),
     )

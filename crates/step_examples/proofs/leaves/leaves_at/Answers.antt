@@ -11,9 +11,15 @@ loop-node-preserved c =
     let front = take c.loop-node.node-index nodes in
     let n = c.node-item.result in
     let new = c.in_ok-leaves.leaves.items in
-    let more : take (c.loop-node.node-index + 1) nodes ≡ front ++ n ∷ [] = take_more nodes c.loop-node.node-index n c.loop-node-test.true ∙ ap (λ (m : Node). front ++ m ∷ []) (sym c.node-item.is) in record {
-      over = subst (λ (ns : List Node). AreOver ns new) (sym more) (c.in_ok-leaves.ensures.over front c.loop-node.invariant.over);
+    let more : take (c.loop-node.node-index + 1) nodes ≡ front ++ n ∷ [] =
+    take_more nodes c.loop-node.node-index n c.loop-node-test.true ∙ ap (λ (m : Node).
+    front ++ m ∷ []) (sym c.node-item.is) in record {
+      over = subst (λ (ns : List Node). AreOver ns new) (sym more)
+          (c.in_ok-leaves.ensures.over front c.loop-node.invariant.over);
       answers = λ leaves.
-          let leaf : LeafAsksForMembers n = subst LeafAsksForMembers (sym c.node-item.is) (leaves c.loop-node.node-index n c.loop-node-test.true) in
-          subst (λ (ns : List Node). AreAnswers c.args.fact ns new) (sym more) (c.in_ok-leaves.ensures.answers leaf front (c.loop-node.invariant.answers leaves));
+          let leaf : LeafAsksForMembers n =
+          subst LeafAsksForMembers (sym c.node-item.is)
+          (leaves c.loop-node.node-index n c.loop-node-test.true) in
+          subst (λ (ns : List Node). AreAnswers c.args.fact ns new) (sym more)
+          (c.in_ok-leaves.ensures.answers leaf front (c.loop-node.invariant.answers leaves));
     }

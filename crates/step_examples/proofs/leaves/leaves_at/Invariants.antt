@@ -7,5 +7,6 @@ use Rattle.step_examples.proofs.leaves.leaves_at.Given as goal
 abbrev pub invariant-loop-node : goal.invariant-loop-node
 invariant-loop-node l = record {
   over : AreOver (take l.node-index l.nodes) l.leaves.items;
-  answers : All LeafAsksForMembers l.nodes → AreAnswers l.fact (take l.node-index l.nodes) l.leaves.items;
+  answers : All LeafAsksForMembers l.nodes
+      → AreAnswers l.fact (take l.node-index l.nodes) l.leaves.items;
 }

@@ -13,6 +13,9 @@ loop-place-preserved c =
     let n = c.index-nodes-place.result in
     let within : place < length rows = omega (arith, c.index-nodes-place.array_long) in
     let before = c.loop-place.invariant leaves in
-    let leaf : LeafAsksForMembers n = subst LeafAsksForMembers (sym c.index-nodes-place.is) (leaves place n c.loop-place-test.true) in
-    rows_more c.args.facts.now nodes rows n c.row_of.result place c.requires.table c.loop-place-test.true c.index-nodes-place.is within before
+    let leaf : LeafAsksForMembers n =
+    subst LeafAsksForMembers (sym c.index-nodes-place.is)
+    (leaves place n c.loop-place-test.true) in
+    rows_more c.args.facts.now nodes rows n c.row_of.result place c.requires.table
+    c.loop-place-test.true c.index-nodes-place.is within before
     (c.row_of.ensures (formula_at nodes) (number_at nodes place) before leaf)

@@ -5,4 +5,5 @@ use Rattle.step_examples.specs.Plain.{AreRows, LeafAsksForMembers}
 use Rattle.step_examples.proofs.plain.rows_of.Given as goal
 
 abbrev pub invariant-loop-place : goal.invariant-loop-place
-invariant-loop-place l = All LeafAsksForMembers l.nodes → AreRows l.facts (formula_at l.nodes) (take l.place l.rows)
+invariant-loop-place l = All LeafAsksForMembers l.nodes
+    → AreRows l.facts (formula_at l.nodes) (take l.place l.rows)

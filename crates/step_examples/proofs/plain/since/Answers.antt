@@ -8,7 +8,12 @@ returns-then-all c =
       λ _. (
         c.loop-place.place,
         c.loop-place-test.true,
-        (c.if-g-place.true, λ l above below. (all_part row (c.loop-place.place + 1) (length row) (omega arith)).0 (c.all.ensures.0 c.if-all.true) l (omega arith) below),
+        (
+          c.if-g-place.true,
+          λ l above below.
+              (all_part row (c.loop-place.place + 1) (length row) (omega arith)).0
+              (c.all.ensures.0 c.if-all.true) l (omega arith) below,
+        ),
       ),
       λ _. refl,
     )

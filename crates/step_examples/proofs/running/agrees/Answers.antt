@@ -13,7 +13,10 @@ loop-count-preserved c =
     let facts = c.args.facts.now in
     let count = c.loop-count.count in record {
       fits = c.in_ok-next.ensures.fits;
-      stands = λ plain. (c.in_ok-next.ensures.agrees (take count facts) (get_or facts count (false, false)) (take_more facts count (false, false) c.loop-count-test.true) plain (c.loop-count.invariant.stands plain)).0;
+      stands = λ plain. (c.in_ok-next.ensures.agrees (take count facts)
+          (get_or facts count (false, false))
+          (take_more facts count (false, false) c.loop-count-test.true) plain
+          (c.loop-count.invariant.stands plain)).0;
     }
 
 pub returns-then-not-same : goal.returns-then-not-same
@@ -21,4 +24,7 @@ returns-then-not-same c =
     λ plain.
     let facts = c.args.facts.now in
     let count = c.loop-count.count in
-    sym c.if-not-same.true ∙ (c.in_ok-next.ensures.agrees (take count facts) (get_or facts count (false, false)) (take_more facts count (false, false) c.loop-count-test.true) plain (c.loop-count.invariant.stands plain)).1
+    sym c.if-not-same.true ∙ (c.in_ok-next.ensures.agrees (take count facts)
+    (get_or facts count (false, false))
+    (take_more facts count (false, false) c.loop-count-test.true) plain
+    (c.loop-count.invariant.stands plain)).1

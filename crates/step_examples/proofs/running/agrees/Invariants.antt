@@ -6,5 +6,6 @@ use Rattle.step_examples.proofs.running.agrees.Given as goal
 abbrev pub invariant-loop-count : goal.invariant-loop-count
 invariant-loop-count l = record {
   fits : Fits l.query 1 l.kept;
-  stands : LeavesAskForMembers l.query → StandsFor [] 1 (history_of (take l.count l.facts)) l.query l.kept;
+  stands : LeavesAskForMembers l.query
+      → StandsFor [] 1 (history_of (take l.count l.facts)) l.query l.kept;
 }

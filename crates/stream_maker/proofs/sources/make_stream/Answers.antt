@@ -12,8 +12,10 @@ loop-line-init c = (
 
 pub loop-line-preserved : goal.loop-line-preserved
 loop-line-preserved c = (
-  state_pieces_more snapshot_text snapshot_end c.args.seed c.loop-line.line c.loop-line.generator.state [] c.loop-line.stream.items c.append_snapshot.new.out.items
+  state_pieces_more snapshot_text snapshot_end c.args.seed c.loop-line.line
+      c.loop-line.generator.state [] c.loop-line.stream.items c.append_snapshot.new.out.items
       c.loop-line.invariant.1 c.loop-line.invariant.0 c.in_ok-append_snapshot.ensures.ok,
-  after_more snapshot_end c.args.seed c.loop-line.line c.loop-line.generator.state c.append_snapshot.new.self.state
+  after_more snapshot_end c.args.seed c.loop-line.line c.loop-line.generator.state
+      c.append_snapshot.new.self.state
       c.loop-line.invariant.1 c.in_ok-append_snapshot.ensures.advanced,
 )

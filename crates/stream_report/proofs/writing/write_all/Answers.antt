@@ -12,11 +12,13 @@ loop-at-preserved g c =
     let later = g.K.Sink.got c.write.new.self in
     let bytes = c.args.bytes.now in
     let next : Gains now later (take c.in-Ok.count (drop c.loop-at.at bytes)) =
-    subst (λ l. Gains now later (take c.in-Ok.count l)) (take_rest bytes c.loop-at.at) c.in-Ok.ensures.bytes in
+    subst (λ l. Gains now later (take c.in-Ok.count l)) (take_rest bytes c.loop-at.at)
+    c.in-Ok.ensures.bytes in
     record {
       within = omega (arith, c.in-Ok.ensures.bound);
       gains = subst (Gains before later) (sym (take-add c.loop-at.at c.in-Ok.count bytes))
-          (Gains-trans before now later (take c.loop-at.at bytes) (take c.in-Ok.count (drop c.loop-at.at bytes)) c.loop-at.invariant.gains next);
+          (Gains-trans before now later (take c.loop-at.at bytes)
+          (take c.in-Ok.count (drop c.loop-at.at bytes)) c.loop-at.invariant.gains next);
       later = omega (arith, c.loop-at.invariant.later, c.write.ensures.cause.later);
     }
 
@@ -27,6 +29,11 @@ returns-in-Err-clause-writes g c = record {
   whole = tt;
   failed = (
     (drop c.loop-at.at c.args.bytes.now, sym (take-append-drop c.loop-at.at c.args.bytes.now)),
-    omega (arith, c.loop-at-test.true, length-take-le c.loop-at.at c.args.bytes.now c.loop-at.invariant.within),
+    omega (
+      arith,
+      c.loop-at-test.true,
+      length-take-le c.loop-at.at c.args.bytes.now
+          c.loop-at.invariant.within,
+    ),
   );
 }

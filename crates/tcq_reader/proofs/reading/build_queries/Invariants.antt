@@ -9,7 +9,8 @@ use Rattle.tcq_reader.proofs.reading.build_queries.Given as goal
 abbrev pub invariant-loop-token : goal.invariant-loop-token
 invariant-loop-token l = record {
   within : l.place ≤ length l.bytes;
-  read : Reading l.ontology (view l.checker) (build l.builder) (marks_of (lexed_from l.bytes l.place)) l.bytes;
+  read : Reading l.ontology (view l.checker) (build l.builder)
+      (marks_of (lexed_from l.bytes l.place)) l.bytes;
 }
 
 abbrev pub decreases-loop-token : goal.decreases-loop-token

@@ -7,4 +7,6 @@ pub returns-then-text-from-eq32 : goal.returns-then-text-from-eq32
 returns-then-text-from-eq32 c =
     let text = c.args.text.now in
     let from = c.args.from in
-    later text Name from (from + 1) c.name_from.result (blank_passed text from c.if-from-text.true c.if-text-from-eq32.true) (omega arith) c.name_from.ensures
+    later text Name from (from + 1) c.name_from.result
+    (blank_passed text from c.if-from-text.true c.if-text-from-eq32.true) (omega arith)
+    c.name_from.ensures

@@ -13,5 +13,6 @@ decreases-extend_at l = 2 * length l.rest.now + 2
 abbrev pub invariant-extend-loop-fact : goal.invariant-extend-loop-fact
 invariant-extend-loop-fact l = record {
   same : l.bindings.items ≡ l.fn.bindings.items;
-  added : AddsRows l.fn.rows l.rows (IsAnswerAmong l.index l.head l.atom l.rest l.fn.bindings.items (take l.fact-index l.fact-items));
+  added : AddsRows l.fn.rows l.rows (IsAnswerAmong l.index l.head l.atom l.rest l.fn.bindings.items
+      (take l.fact-index l.fact-items));
 }

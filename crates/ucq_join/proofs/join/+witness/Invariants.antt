@@ -12,5 +12,6 @@ decreases-has_match_at l = 2 * length l.rest.now + 2
 abbrev pub invariant-has_match-loop-fact : goal.invariant-has_match-loop-fact
 invariant-has_match-loop-fact l = record {
   same : l.bindings.items ≡ l.fn.bindings.items;
-  apart : HasMatchAmong l.index l.atom l.rest l.fn.bindings.items (take l.fact-index l.fact-items) → ⊥;
+  apart : HasMatchAmong l.index l.atom l.rest l.fn.bindings.items (take l.fact-index l.fact-items)
+      → ⊥;
 }

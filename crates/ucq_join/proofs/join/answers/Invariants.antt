@@ -8,5 +8,6 @@ use Rattle.ucq_join.proofs.join.answers.Given as goal
 abbrev pub invariant-loop-query : goal.invariant-loop-query
 invariant-loop-query l = record {
   wide : l.rows.arity ≡ l.arity;
-  rows : (row : List IndId) → HasRow l.rows.runs row ↔ IsUnionAnswer l.index (take l.query-index l.union) row;
+  rows : (row : List IndId) → HasRow l.rows.runs row
+      ↔ IsUnionAnswer l.index (take l.query-index l.union) row;
 }

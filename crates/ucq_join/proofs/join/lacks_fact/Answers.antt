@@ -9,6 +9,10 @@ use Rattle.ucq_join.proofs.join.lacks_fact.Goals as goal
 
 pub returns : goal.returns
 returns c h t there =
-    let found : Contains c.candidates.result.now (atom_at t c.args.atom) = c.candidates.ensures.complete t (record { at = λ v e k. cc }) there in
-    let empty : c.candidates.result.now ≡ [] = nil_from_length c.candidates.result.now (eqb-true (length c.candidates.result.now) 0 (sym c.is_empty.ensures ∙ h)) in
-    Contains-none (atom_at t c.args.atom) (subst (λ (fs : List Fact). Contains fs (atom_at t c.args.atom)) empty found)
+    let found : Contains c.candidates.result.now (atom_at t c.args.atom) =
+    c.candidates.ensures.complete t (record { at = λ v e k. cc }) there in
+    let empty : c.candidates.result.now ≡ [] =
+    nil_from_length c.candidates.result.now
+    (eqb-true (length c.candidates.result.now) 0 (sym c.is_empty.ensures ∙ h)) in
+    Contains-none (atom_at t c.args.atom)
+    (subst (λ (fs : List Fact). Contains fs (atom_at t c.args.atom)) empty found)

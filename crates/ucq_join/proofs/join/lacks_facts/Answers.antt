@@ -6,4 +6,5 @@ use Rattle.ucq_join.proofs.join.lacks_facts.Goals as goal
 pub returns-then-lacks_fact : goal.returns-then-lacks_fact
 returns-then-lacks_fact c h t match =
     let none : Atom = atom.Concept (record { 0 = 0 }) (term.Var 0) in
-    c.lacks_fact.ensures c.if-lacks_fact.true t (match c.loop-atom.atom-index none c.loop-atom-test.true)
+    c.lacks_fact.ensures c.if-lacks_fact.true t
+    (match c.loop-atom.atom-index none c.loop-atom-test.true)

@@ -8,4 +8,11 @@ pub returns : goal.returns
 returns c =
     let bytes : vec_len c.self.inside.bytes ≡ length c.self.inside.bytes.items = search rules in
     let seen = ap (λ (rs : List Run). end_from 0 rs) c.self.view_is in
-    omega (arith, bytes, seen, c.self.invariant.2, whole_end c.self.inside.runs.items c.self.inside.bytes.items)
+    omega (
+      arith,
+      bytes,
+      seen,
+      c.self.invariant.2,
+      whole_end c.self.inside.runs.items
+          c.self.inside.bytes.items,
+    )

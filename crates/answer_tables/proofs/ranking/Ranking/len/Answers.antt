@@ -8,4 +8,11 @@ returns c =
     let runs : vec_len c.self.inside.runs ≡ length c.self.inside.runs.items = search rules in
     let bytes : vec_len c.self.inside.bytes ≡ length c.self.inside.bytes.items = search rules in
     let seen = ap (λ (rs : List Run). length rs) c.self.view_is in
-    omega (arith, runs, bytes, seen, whole_length c.self.inside.runs.items c.self.inside.bytes.items)
+    omega (
+      arith,
+      runs,
+      bytes,
+      seen,
+      whole_length c.self.inside.runs.items
+          c.self.inside.bytes.items,
+    )

@@ -1,4 +1,5 @@
-use Rattle.std.proofs.Common.{◌≡◌, ◌<◌, ◌≤◌, ◌+◌, ◌-◌, ℕ, List, length, get_or, vec_len, rules, sym, ◌∙◌, ap, arith}
+use Rattle.std.proofs.Common.{◌≡◌, ◌<◌, ◌≤◌, ◌+◌, ◌-◌, ℕ, List, length, get_or, vec_len, rules, sym}
+use Rattle.std.proofs.Common.{◌∙◌, ap, arith}
 use Rattle.std.proofs.lemmas.List.{get_or_default}
 use Rattle.answer_tables.specs.declared.run.Run.{Run}
 use Rattle.answer_tables.specs.Runs.{end_from, link_at}
@@ -10,7 +11,9 @@ returns-then-rank-self c =
     let runs = c.self.inside.runs.items in
     let start : c.self.inside.start ≡ end_from 0 runs = c.self.invariant.2 in
     c.link_of.ensures ∙ ap (λ (rs : List Run). link_at rs c.args.rank) c.as_slice.ensures.value
-    ∙ sym (whole_early runs c.self.inside.bytes.items c.args.rank (omega (arith, start, c.if-rank-self.true))) ∙ ap (λ (rs : List Run). link_at rs c.args.rank) c.self.view_is
+    ∙ sym (whole_early runs c.self.inside.bytes.items c.args.rank
+    (omega (arith, start, c.if-rank-self.true))) ∙ ap (λ (rs : List Run).
+    link_at rs c.args.rank) c.self.view_is
 
 pub index-requires : goal.index-requires
 index-requires c =
@@ -18,7 +21,15 @@ index-requires c =
     let start : c.self.inside.start ≡ end_from 0 runs = c.self.invariant.2 in
     let bytes : vec_len c.self.inside.bytes ≡ length c.self.inside.bytes.items = search rules in
     let seen = ap (λ (rs : List Run). end_from 0 rs) c.self.view_is in
-    omega (arith, start, bytes, seen, whole_end runs c.self.inside.bytes.items, c.requires, c.if-rank-self.false)
+    omega (
+      arith,
+      start,
+      bytes,
+      seen,
+      whole_end runs c.self.inside.bytes.items,
+      c.requires,
+      c.if-rank-self.false,
+    )
 
 pub returns : goal.returns
 returns c =
@@ -28,6 +39,10 @@ returns c =
     let start : c.self.inside.start ≡ end_from 0 runs = c.self.invariant.2 in
     let seen = ap (λ (rs : List Run). end_from 0 rs) c.self.view_is in
     let past : end_from 0 runs ≤ rank = omega (arith, start, c.if-rank-self.false) in
-    let within : rank < end_from 0 runs + length bytes = omega (arith, seen, whole_end runs bytes, c.requires) in
-    c.index.ensures ∙ ap (λ (n : ℕ). get_or bytes (rank - n) c.index.result.now) start ∙ get_or_default bytes (rank - end_from 0 runs) c.index.result.now 0 (omega (arith, past, within))
-    ∙ sym (whole_late runs bytes rank c.self.invariant.0 past within) ∙ ap (λ (rs : List Run). link_at rs rank) c.self.view_is
+    let within : rank < end_from 0 runs + length bytes =
+    omega (arith, seen, whole_end runs bytes, c.requires) in
+    c.index.ensures ∙ ap (λ (n : ℕ). get_or bytes (rank - n) c.index.result.now)
+    start ∙ get_or_default bytes (rank - end_from 0 runs) c.index.result.now 0
+    (omega (arith, past, within))
+    ∙ sym (whole_late runs bytes rank c.self.invariant.0 past within) ∙ ap (λ (rs : List Run).
+    link_at rs rank) c.self.view_is

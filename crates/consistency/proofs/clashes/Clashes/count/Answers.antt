@@ -6,5 +6,7 @@ use Rattle.consistency.proofs.clashes.Clashes.count.Goals as goal
 
 pub returns : goal.returns
 returns c =
-    let own : c.len.result ≡ length c.self.inside.rewritings.items = c.len.ensures ∙ c.self.inside.rewritings.ok.0 in
-    own ∙ (ap (λ (p : Prepared). length p.rewritings) c.self.view_is ∙ sym (length-map c.args.self.now.rewritings (λ (r : Rewriting). r.core.items)))
+    let own : c.len.result ≡ length c.self.inside.rewritings.items =
+    c.len.ensures ∙ c.self.inside.rewritings.ok.0 in
+    own ∙ (ap (λ (p : Prepared). length p.rewritings) c.self.view_is ∙ sym
+    (length-map c.args.self.now.rewritings (λ (r : Rewriting). r.core.items)))

@@ -14,9 +14,13 @@ use Rattle.monitor_core.proofs.monitor.Monitor.accept.Goals as goal
 
 pub closed-requires-clause-over : goal.closed-requires-clause-over
 unfolding setting_of
-closed-requires-clause-over c = subst (λ (m : Monitored). AreOver (setting_of m).ontology c.args.snapshot.now) (sym c.self.view_is) c.requires
+closed-requires-clause-over c =
+    subst (λ (m : Monitored). AreOver (setting_of m).ontology c.args.snapshot.now)
+    (sym c.self.view_is) c.requires
 
-none_first : (o : Declared) (snapshot : List Fact) (first : Option ℕ) → ((number : ℕ) → first ≡ Some number → ⊥) → IsFirstClash o snapshot first → IsConsistentUnder o snapshot
+none_first : (o : Declared) (snapshot : List Fact) (first : Option ℕ)
+    → ((number : ℕ) → first ≡ Some number → ⊥) → IsFirstClash o snapshot first
+    → IsConsistentUnder o snapshot
 none_first o snapshot None never is = is
 none_first o snapshot (Some number) never is = absurd (never number refl)
 
@@ -25,20 +29,35 @@ unfolding setting_of
 returns-in-Some-clause-contradiction c = λ number is.
     let o = c.self.inside.plan.ontology in
     let same : c.in-Some.number ≡ number = cc in
-    let least : IsLeastClash o c.args.snapshot.now number = subst (IsLeastClash o c.args.snapshot.now) same (subst (IsFirstClash o c.args.snapshot.now) c.in-Some.is (c.in_ok-number.ensures c.self.inside.plan.ontology c.args.snapshot.now c.in_ok-facts.ensures.0 c.self.invariant.plan.clashes_for (over_setting c.self.inside.plan c.self.inside.state c.args.self.now c.args.snapshot.now c.self.view_is c.self.invariant c.requires) c.in_ok-facts.ensures.1 (agree_on_clashes c.self.inside.plan.sight c.in_ok-facts.ensures.0 c.in_ok-facts.facts c.in_ok-facts.ensures.2 c.self.inside.plan.clashes c.self.invariant.plan.sees_clashes))) in
-    subst (λ (m : Monitored). IsLeastClash (setting_of m).ontology c.args.snapshot.now number) c.self.view_is least
+    let least : IsLeastClash o c.args.snapshot.now number =
+    subst (IsLeastClash o c.args.snapshot.now) same
+    (subst (IsFirstClash o c.args.snapshot.now) c.in-Some.is
+    (c.in_ok-number.ensures c.self.inside.plan.ontology c.args.snapshot.now
+    c.in_ok-facts.ensures.0 c.self.invariant.plan.clashes_for
+    (over_setting c.self.inside.plan c.self.inside.state c.args.self.now c.args.snapshot.now
+    c.self.view_is c.self.invariant c.requires) c.in_ok-facts.ensures.1
+    (agree_on_clashes c.self.inside.plan.sight c.in_ok-facts.ensures.0 c.in_ok-facts.facts
+    c.in_ok-facts.ensures.2 c.self.inside.plan.clashes c.self.invariant.plan.sees_clashes))) in
+    subst (λ (m : Monitored). IsLeastClash (setting_of m).ontology c.args.snapshot.now number)
+    c.self.view_is least
 
 pub invariant_of-self : goal.invariant_of-self
 invariant_of-self c = c.self.invariant
 
 pub invariant_of-self-2 : goal.invariant_of-self-2
-invariant_of-self-2 c = still_monitored (record { plan = c.self.inside.plan; state = c.self.inside.state }) c.in_ok-facts.facts c.in_ok-state.state c.in_ok-state.answers.items c.in_ok-state.ensures c.self.invariant
+invariant_of-self-2 c = still_monitored (record {
+  plan = c.self.inside.plan;
+  state =
+      c.self.inside.state;
+}) c.in_ok-facts.facts c.in_ok-state.state c.in_ok-state.answers.items
+    c.in_ok-state.ensures c.self.invariant
 
 pub returns-clause-plan : goal.returns-clause-plan
 returns-clause-plan c = ap (λ (m : Monitored). m.plan) c.self.view_is
 
 pub returns-clause-counted : goal.returns-clause-counted
-returns-clause-counted c = subst (λ (m : Monitored). c.in_ok-state.state.count ≡ one_more m.state.count) c.self.view_is c.in_ok-state.ensures.counted
+returns-clause-counted c = subst (λ (m : Monitored). c.in_ok-state.state.count
+    ≡ one_more m.state.count) c.self.view_is c.in_ok-state.ensures.counted
 
 pub returns-clause-setting : goal.returns-clause-setting
 unfolding setting_of
@@ -46,17 +65,49 @@ returns-clause-setting c = ap (λ (m : Monitored). setting_of m) c.self.view_is
 
 pub returns-clause-rows : goal.returns-clause-rows
 returns-clause-rows c =
-    subst (λ (m : Monitored). AreRowsOf (setting_of m).ontology (setting_of m).queries c.in_ok-state.answers.items) c.self.view_is
-    (next_rows (record { plan = c.self.inside.plan; state = c.self.inside.state }) c.in_ok-facts.facts c.in_ok-state.state c.in_ok-state.answers.items c.in_ok-state.ensures)
+    subst (λ (m : Monitored). AreRowsOf (setting_of m).ontology (setting_of m).queries
+    c.in_ok-state.answers.items) c.self.view_is
+    (next_rows (record {
+      plan = c.self.inside.plan;
+      state =
+          c.self.inside.state;
+    }) c.in_ok-facts.facts c.in_ok-state.state c.in_ok-state.answers.items
+    c.in_ok-state.ensures)
 
 pub returns-clause-consistent : goal.returns-clause-consistent
 unfolding setting_of
 returns-clause-consistent c =
-    subst (λ (m : Monitored). IsConsistentUnder (setting_of m).ontology c.args.snapshot.now) c.self.view_is
-    (none_first c.self.inside.plan.ontology c.args.snapshot.now c.in_ok-number.field-0 (λ number is. c.in_default.not-Some number is) (c.in_ok-number.ensures c.self.inside.plan.ontology c.args.snapshot.now c.in_ok-facts.ensures.0 c.self.invariant.plan.clashes_for (over_setting c.self.inside.plan c.self.inside.state c.args.self.now c.args.snapshot.now c.self.view_is c.self.invariant c.requires) c.in_ok-facts.ensures.1 (agree_on_clashes c.self.inside.plan.sight c.in_ok-facts.ensures.0 c.in_ok-facts.facts c.in_ok-facts.ensures.2 c.self.inside.plan.clashes c.self.invariant.plan.sees_clashes)))
+    subst (λ (m : Monitored). IsConsistentUnder (setting_of m).ontology c.args.snapshot.now)
+    c.self.view_is
+    (none_first c.self.inside.plan.ontology c.args.snapshot.now c.in_ok-number.field-0 (λ number is.
+    c.in_default.not-Some number is)
+    (c.in_ok-number.ensures c.self.inside.plan.ontology c.args.snapshot.now
+    c.in_ok-facts.ensures.0 c.self.invariant.plan.clashes_for
+    (over_setting c.self.inside.plan c.self.inside.state c.args.self.now c.args.snapshot.now
+    c.self.view_is c.self.invariant c.requires) c.in_ok-facts.ensures.1
+    (agree_on_clashes c.self.inside.plan.sight c.in_ok-facts.ensures.0 c.in_ok-facts.facts
+    c.in_ok-facts.ensures.2 c.self.inside.plan.clashes c.self.invariant.plan.sees_clashes)))
 
 pub returns-clause-ok : goal.returns-clause-ok
 returns-clause-ok c = λ history stands.
-    let before : Stands (record { plan = c.self.inside.plan; state = c.self.inside.state }) history = subst (λ (m : Monitored). Stands m history) (sym c.self.view_is) stands in
-    subst (λ (m : Monitored). Accepts m (after (record { plan = c.self.inside.plan; state = c.self.inside.state }) c.in_ok-facts.facts c.in_ok-state.state c.in_ok-state.answers.items c.in_ok-state.ensures) c.args.snapshot.now c.in_ok-state.answers.items history) c.self.view_is
-    (accepts (record { plan = c.self.inside.plan; state = c.self.inside.state }) c.in_ok-facts.facts c.in_ok-state.state c.in_ok-state.answers.items c.in_ok-state.ensures c.args.snapshot.now history (over_setting c.self.inside.plan c.self.inside.state c.args.self.now c.args.snapshot.now c.self.view_is c.self.invariant c.requires) c.in_ok-facts.ensures before)
+    let before : Stands (record {
+      plan = c.self.inside.plan;
+      state =
+          c.self.inside.state;
+    }) history =
+    subst (λ (m : Monitored). Stands m history) (sym c.self.view_is) stands in
+    subst (λ (m : Monitored). Accepts m (after (record {
+      plan = c.self.inside.plan;
+      state =
+          c.self.inside.state;
+    }) c.in_ok-facts.facts c.in_ok-state.state c.in_ok-state.answers.items
+    c.in_ok-state.ensures) c.args.snapshot.now c.in_ok-state.answers.items history)
+    c.self.view_is
+    (accepts (record {
+      plan = c.self.inside.plan;
+      state =
+          c.self.inside.state;
+    }) c.in_ok-facts.facts c.in_ok-state.state c.in_ok-state.answers.items
+    c.in_ok-state.ensures c.args.snapshot.now history
+    (over_setting c.self.inside.plan c.self.inside.state c.args.self.now c.args.snapshot.now
+    c.self.view_is c.self.invariant c.requires) c.in_ok-facts.ensures before)

@@ -8,4 +8,5 @@ returns-clause-state c = ap (λ (m : Monitored). m.state.count) c.self.view_is
 
 pub returns-clause-history : goal.returns-clause-history
 unfolding Stands
-returns-clause-history c = λ history stands. (subst (λ (m : Monitored). Stands m history) (sym c.self.view_is) stands).0
+returns-clause-history c = λ history stands.
+    (subst (λ (m : Monitored). Stands m history) (sym c.self.view_is) stands).0

@@ -13,6 +13,10 @@ returns c =
     let sight = c.args.self.now.sight in
     let snapshot = c.args.snapshot.now in
     let facts = c.in_ok-facts.facts in
-    let over : IsOverOntology o snapshot = over_ontology o snapshot c.requires.plan.sound.inclusions_declared c.requires.over in
-    let seen : IsSeenSaturation o.inclusions sight snapshot facts = subst (λ (is : List Inclusion). IsSeenSaturation is sight snapshot facts) c.requires.plan.saturates c.in_ok-facts.ensures in
-    if_ok_weaker _ _ (λ index members. seen_again o sight snapshot facts index over seen members) c.index.result c.index.ensures.members
+    let over : IsOverOntology o snapshot =
+    over_ontology o snapshot c.requires.plan.sound.inclusions_declared c.requires.over in
+    let seen : IsSeenSaturation o.inclusions sight snapshot facts =
+    subst (λ (is : List Inclusion). IsSeenSaturation is sight snapshot facts)
+    c.requires.plan.saturates c.in_ok-facts.ensures in
+    if_ok_weaker _ _ (λ index members. seen_again o sight snapshot facts index over seen members)
+    c.index.result c.index.ensures.members

@@ -12,7 +12,11 @@ returns-in-Ok-Some-clause-tells c = λ state stands.
     let old = c.args.self.now.monitor in
     let new = c.ask.new.monitor in
     let line = item_of c.args.line in
-    rehearsed_event old new line c.args.number c.args.self.now.refused c.refusals.result c.in-Ok-Some.event c.args.gathered.now.items state stands.0 stands.1 c.refusals.ensures.exact
+    rehearsed_event old new line c.args.number c.args.self.now.refused c.refusals.result
+    c.in-Ok-Some.event c.args.gathered.now.items state stands.0 stands.1
+    c.refusals.ensures.exact
     (λ history here.
-    subst (λ (o : Options). AcceptsLine o old new line c.args.number (Some c.in-Ok-Some.event) history) c.plain.ensures
-    (subst (λ (e : Option Event). AcceptsLine c.plain.result old new line c.args.number e history) c.in-Ok-Some.field-0-is (c.in-Ok-Some.ensures.ok history here)))
+    subst (λ (o : Options). AcceptsLine o old new line c.args.number (Some c.in-Ok-Some.event)
+    history) c.plain.ensures
+    (subst (λ (e : Option Event). AcceptsLine c.plain.result old new line c.args.number e history)
+    c.in-Ok-Some.field-0-is (c.in-Ok-Some.ensures.ok history here)))

@@ -6,13 +6,17 @@ use Rattle.owl_reader.specs.Tables.{Table, looked_up}
 use Rattle.owl_reader.proofs.TableLemmas.{Texts, bytes_of, seen, found}
 use Rattle.owl_reader.proofs.tables.Table.find.Goals as goal
 
-answered : (key : List ℕ) (entries : Texts) (table : Table) (answer : Option (Vec ℕ Global)) → seen entries ≡ table → answer ≡ lookup (λ k. bytes_eq key k.items) entries
+answered : (key : List ℕ) (entries : Texts) (table : Table) (answer : Option (Vec ℕ Global))
+    → seen entries ≡ table → answer ≡ lookup (λ k. bytes_eq key k.items) entries
     → option_map bytes_of answer ≡ looked_up key table
-answered key entries table answer view is = ap (option_map bytes_of) is ∙ found key entries ∙ ap (looked_up key) view
+answered key entries table answer view is =
+    ap (option_map bytes_of) is ∙ found key entries ∙ ap (looked_up key) view
 
 pub returns-in-Some : goal.returns-in-Some
 returns-in-Some c =
-    ap Some c.as_slice.ensures.value ∙ answered c.args.key.now c.self.inside.entries.entries c.args.self.now (Some c.in-Some.text.now) c.self.view_is c.in-Some.ensures.value
+    ap Some c.as_slice.ensures.value ∙ answered c.args.key.now c.self.inside.entries.entries
+    c.args.self.now (Some c.in-Some.text.now) c.self.view_is c.in-Some.ensures.value
 
 pub returns-in-None : goal.returns-in-None
-returns-in-None c = answered c.args.key.now c.self.inside.entries.entries c.args.self.now None c.self.view_is c.in-None.ensures.value
+returns-in-None c = answered c.args.key.now c.self.inside.entries.entries c.args.self.now None
+    c.self.view_is c.in-None.ensures.value

@@ -5,5 +5,6 @@ use Rattle.perfect_ref.proofs.successors.RulesTransitionCq.push_next.Goals as go
 pub returns : goal.returns
 returns c =
     on_ok_weaker c.push_reducts.result
-    (Adds-steps c.args.self.now c.args.state.now c.args.out.now.items _ _ c.in_ok-push_everywhere.ensures)
+    (Adds-steps c.args.self.now c.args.state.now c.args.out.now.items _ _
+    c.in_ok-push_everywhere.ensures)
     c.push_reducts.ensures

@@ -5,4 +5,5 @@ use Rattle.saturate.specs.Implied.{IsImplied}
 use Rattle.saturate.proofs.saturator.Saturator.implied.Given as goal
 
 abbrev pub invariant-loop-fact : goal.invariant-loop-fact
-invariant-loop-fact l = Absorbs (Seen l.sight (IsImplied l.self (take l.fact-index l.facts))) [] l.found.keys
+invariant-loop-fact l = Absorbs (Seen l.sight (IsImplied l.self (take l.fact-index l.facts))) []
+    l.found.keys

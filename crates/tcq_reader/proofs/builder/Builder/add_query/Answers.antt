@@ -12,5 +12,6 @@ overflow_add-total c =
       arith,
       ap (λ (s : Sizes). s.units) c.sizes.ensures,
       c.requires.sound.few_units,
-      units_below (length q.nodes) c.args.individuals q.vars (futures q.nodes) valid.few_nodes c.requires.few valid.few_variables valid.few_futures,
+      units_below (length q.nodes) c.args.individuals q.vars (futures q.nodes) valid.few_nodes
+          c.requires.few valid.few_variables valid.few_futures,
     )

@@ -12,18 +12,21 @@ pub returns-then-eq : goal.returns-then-eq
 unfolding see none
 returns-then-eq c =
     let same = c.deref-known-items.ensures.value in
-    sym (found_in see c.args.self.now.variables.items c.args.text.now c.loop-place.place none (rw (← same) c.loop-place-test.true) c.loop-place.invariant
+    sym (found_in see c.args.self.now.variables.items c.args.text.now c.loop-place.place none
+    (rw (← same) c.loop-place-test.true) c.loop-place.invariant
     (rw (← same) (sym c.eq.ensures ∙ c.if-eq.true)))
 
 pub loop-place-preserved : goal.loop-place-preserved
 unfolding see none
 loop-place-preserved c =
     let same = c.deref-known-items.ensures.value in
-    not_before_more see c.args.self.now.variables.items c.args.text.now c.loop-place.place none (rw (← same) c.loop-place-test.true) c.loop-place.invariant
+    not_before_more see c.args.self.now.variables.items c.args.text.now c.loop-place.place none
+    (rw (← same) c.loop-place-test.true) c.loop-place.invariant
     (rw (← same) (sym c.eq.ensures ∙ c.if-eq.false))
 
 pub returns : goal.returns
 unfolding see
 returns c =
     let same = c.deref-known-items.ensures.value in
-    sym (not_found_in see c.args.self.now.variables.items c.args.text.now c.loop-place.place (rw (← same) c.loop-place-test.false) c.loop-place.invariant)
+    sym (not_found_in see c.args.self.now.variables.items c.args.text.now c.loop-place.place
+    (rw (← same) c.loop-place-test.false) c.loop-place.invariant)

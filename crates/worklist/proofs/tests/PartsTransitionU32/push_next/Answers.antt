@@ -10,7 +10,8 @@ returns c =
     let third = c.args.state.now / 3 ∷ [] in
     record {
       added = parts_of c.args.state.now;
-      order = c.in_ok-push-2.ensures.items ∙ ap (λ (xs : List ℕ). xs ++ third) c.in_ok-push.ensures.items ∙ append_assoc c.args.out.now.items half third;
+      order = c.in_ok-push-2.ensures.items ∙ ap (λ (xs : List ℕ).
+          xs ++ third) c.in_ok-push.ensures.items ∙ append_assoc c.args.out.now.items half third;
       sound = All-contains_itself (parts_of c.args.state.now);
       complete = λ y h. h;
     }
