@@ -11,3 +11,4 @@ pub mod OneQuery
 pub mod Accepting
 pub mod Bounds
 pub mod Sizes
+pub mod Example

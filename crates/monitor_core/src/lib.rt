@@ -14,6 +14,8 @@ mod monitor;
 mod opening;
 mod plan;
 mod state;
+#[cfg(test)]
+mod tests;
 
 pub use accept_fault::AcceptFault;
 pub use monitor::Monitor;
