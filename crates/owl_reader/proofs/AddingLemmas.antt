@@ -16,7 +16,8 @@ use Rattle.ontology_reader.specs.Answers.{Fails}
 use Rattle.owl_reader.specs.declared.entities.Term as terms
 use Rattle.owl_reader.specs.declared.entities.Term.TheVariants as term_of
 use Rattle.owl_reader.specs.StatementViews.{term_seen}
-use Rattle.owl_reader.specs.Statements.{Term, sub, disjoint, in_turn, equivalent, all_disjoint}
+use Rattle.owl_reader.specs.Statements.{Term, sub, disjoint_terms, in_turn, equivalent}
+use Rattle.owl_reader.specs.Statements.{all_disjoint}
 use Rattle.owl_reader.specs.Statements.{all_added}
 
 -- what is left to say where these terms are left of the cycle
@@ -91,15 +92,15 @@ unfolding all_added
 none_added o = refl
 
 pub each_next : (left : Term) (xs : List terms.Term) (place : ℕ) → place < length xs
-    → map (disjoint left) (map term_seen (drop place xs))
-    ≡ disjoint left (term_seen (get_or xs place no_term))
-    ∷ map (disjoint left) (map term_seen (drop (place + 1) xs))
+    → map (disjoint_terms left) (map term_seen (drop place xs))
+    ≡ disjoint_terms left (term_seen (get_or xs place no_term))
+    ∷ map (disjoint_terms left) (map term_seen (drop (place + 1) xs))
 each_next left xs place lt = ap (λ (ys : List terms.Term).
-    map (disjoint left) (map term_seen ys)) (drop-cons xs place no_term lt) ∙ rw add-one refl
+    map (disjoint_terms left) (map term_seen ys)) (drop-cons xs place no_term lt) ∙ rw add-one refl
 
 pub pairs_next : (xs : List terms.Term) (place : ℕ) → place < length xs
     → all_disjoint (map term_seen (drop place xs))
-    ≡ map (disjoint (term_seen (get_or xs place no_term)))
+    ≡ map (disjoint_terms (term_seen (get_or xs place no_term)))
     (map term_seen (take (length xs - (place + 1)) (drop (place + 1) xs)))
     ++ all_disjoint (map term_seen (drop (place + 1) xs))
 pairs_next xs place lt =

@@ -146,10 +146,11 @@ sub (basic b) (basic c) = includes b c
 sub (basic b) (qualified r name) = includes_qualified b r name
 sub _ _ = nothing
 
-abbrev pub disjoint : Term → Term → Saying
-disjoint (role r) (role s) = disjoint_roles r s
-disjoint (basic b) (basic c) = disjoint b c
-disjoint _ _ = nothing
+-- the two have nothing in common
+abbrev pub disjoint_terms : Term → Term → Saying
+disjoint_terms (role r) (role s) = disjoint_roles r s
+disjoint_terms (basic b) (basic c) = disjoint b c
+disjoint_terms _ _ = nothing
 
 -- each in the next one, and the last in the first
 abbrev pub in_turn : Term → Term → List Term → List Saying
@@ -163,7 +164,7 @@ equivalent (x ∷ rest) = in_turn x x rest
 -- each disjoint with each of those behind it
 abbrev pub all_disjoint : List Term → List Saying
 all_disjoint [] = []
-all_disjoint (x ∷ rest) = map (disjoint x) rest ++ all_disjoint rest
+all_disjoint (x ∷ rest) = map (disjoint_terms x) rest ++ all_disjoint rest
 
 -- the inverse of a role
 abbrev pub turned : Term → Term
@@ -185,7 +186,7 @@ symmetric (r ∷ []) = sub r (turned r) ∷ []
 symmetric _ = []
 
 abbrev pub asymmetric : List Term → List Saying
-asymmetric (r ∷ []) = disjoint r (turned r) ∷ []
+asymmetric (r ∷ []) = disjoint_terms r (turned r) ∷ []
 asymmetric _ = []
 
 abbrev pub sub_first : List Term → List Saying

@@ -55,8 +55,9 @@ fn sub<'a>(left: &Term<'a>, right: &Term<'a>) -> Saying<'a>
 }
 
 /// Nothing is in both.
-fn disjoint<'a>(left: &Term<'a>, right: &Term<'a>) -> Saying<'a>
-    ensures { sayings.saying_seen result ≡ s.disjoint (term_seen left.now) (term_seen right.now) }
+fn disjoint_terms<'a>(left: &Term<'a>, right: &Term<'a>) -> Saying<'a>
+    ensures { sayings.saying_seen result
+        ≡ s.disjoint_terms (term_seen left.now) (term_seen right.now) }
 {
     match (left, right) {
         (Term::Role(left), Term::Role(right)) => Saying::DisjointRoles(*left, *right),
@@ -76,9 +77,9 @@ fn add_sub(ontology: &mut Ontology, left: &Term<'_>, right: &Term<'_>) -> Result
 /// Adds that nothing is in both.
 fn add_disjoint(ontology: &mut Ontology, left: &Term<'_>, right: &Term<'_>) -> Result<(), LineFault>
     ensures { Changes result (s.added_one ontology.old
-        (s.disjoint (term_seen left.now) (term_seen right.now))) ontology.new }
+        (s.disjoint_terms (term_seen left.now) (term_seen right.now))) ontology.new }
 {
-    add(ontology, &disjoint(left, right))
+    add(ontology, &disjoint_terms(left, right))
 }
 
 /// Adds each in the next one, and the last in the first.
@@ -109,7 +110,7 @@ fn add_disjoint_each(
     terms: &[Term<'_>],
 ) -> Result<(), LineFault>
     ensures { Changes result (s.all_added ontology.old
-        (map (s.disjoint (term_seen left.now)) (map term_seen terms.now))) ontology.new }
+        (map (s.disjoint_terms (term_seen left.now)) (map term_seen terms.now))) ontology.new }
 {
     let mut place = 0;
     while place < terms.len() {
@@ -197,7 +198,7 @@ fn add_asymmetric(ontology: &mut Ontology, terms: &[Term<'_>]) -> Result<(), Lin
         ontology.new }
 {
     match terms {
-        [role] => add_last(ontology, &disjoint(role, &turned(role))),
+        [role] => add_last(ontology, &disjoint_terms(role, &turned(role))),
         _ => Ok(()),
     }
 }

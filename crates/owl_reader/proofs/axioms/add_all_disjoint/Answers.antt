@@ -1,5 +1,5 @@
 use Rattle.std.proofs.Common.{◌≡◌, ◌+◌, ◌-◌, List, ap, ◌∙◌, arith, map, drop, take, length, get_or}
-use Rattle.owl_reader.specs.Statements.{Term, disjoint, all_disjoint, all_added}
+use Rattle.owl_reader.specs.Statements.{Term, disjoint_terms, all_disjoint, all_added}
 use Rattle.owl_reader.specs.StatementViews.{term_seen}
 use Rattle.owl_reader.proofs.AddingLemmas.{append_added, steps_fail, none_added, pairs_next}
 use Rattle.owl_reader.proofs.AddingLemmas.{terms_end, no_term}
@@ -10,7 +10,7 @@ returns-in-Err c =
     let o = c.loop-place.ontology in
     let terms = c.args.terms.now in
     let place = c.loop-place.place in
-    steps_fail c.in-Err.fault _ o (map (disjoint (term_seen (get_or terms place no_term)))
+    steps_fail c.in-Err.fault _ o (map (disjoint_terms (term_seen (get_or terms place no_term)))
     (map term_seen (take (length terms - (place + 1)) (drop (place + 1) terms))))
     (all_disjoint (map term_seen (drop (place + 1) terms))) c.in-Err.ensures
     (c.loop-place.invariant.read ∙ ap (all_added o) (pairs_next terms place c.loop-place-test.true))
@@ -26,7 +26,7 @@ loop-place-preserved c =
           c.loop-place.invariant.read
           ∙ ap (all_added o) (pairs_next terms place c.loop-place-test.true)
           ∙ append_added o c.add_disjoint_each.new.ontology
-          (map (disjoint (term_seen (get_or terms place no_term)))
+          (map (disjoint_terms (term_seen (get_or terms place no_term)))
           (map term_seen (take (length terms - (place + 1)) (drop (place + 1) terms))))
           (all_disjoint (map term_seen (drop (place + 1) terms))) c.in-Ok.ensures;
     }

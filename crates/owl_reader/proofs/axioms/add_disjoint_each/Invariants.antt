@@ -1,5 +1,5 @@
 use Rattle.std.proofs.Common.{◌≡◌, ◌-◌, ◌≤◌, length, drop, map}
-use Rattle.owl_reader.specs.Statements.{equivalent, disjoint, all_disjoint, all_added}
+use Rattle.owl_reader.specs.Statements.{equivalent, disjoint_terms, all_disjoint, all_added}
 use Rattle.owl_reader.specs.StatementViews.{term_seen}
 use Rattle.owl_reader.proofs.AddingLemmas.{rest_of_cycle}
 use Rattle.owl_reader.proofs.axioms.add_disjoint_each.Given as goal
@@ -7,8 +7,8 @@ use Rattle.owl_reader.proofs.axioms.add_disjoint_each.Given as goal
 abbrev pub invariant-loop-place : goal.invariant-loop-place
 invariant-loop-place l = record {
   within : l.place ≤ length l.terms;
-  read : all_added l.fn.ontology (map (disjoint (term_seen l.left)) (map term_seen l.terms))
-      ≡ all_added l.ontology (map (disjoint (term_seen l.left))
+  read : all_added l.fn.ontology (map (disjoint_terms (term_seen l.left)) (map term_seen l.terms))
+      ≡ all_added l.ontology (map (disjoint_terms (term_seen l.left))
       (map term_seen (drop l.place l.terms)));
 }
 
