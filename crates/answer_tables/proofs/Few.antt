@@ -6,8 +6,8 @@ use Rattle.std.specs.List.{Contains, sum_by}
 use Rattle.std.proofs.lemmas.List.Elements.{All-contains}
 use Rattle.std.proofs.lemmas.List.Sums.{sum_by-cons}
 use Rattle.dl_syntax.specs.declared.names.IndId.{IndId}
-use Rattle.dl_syntax.proofs.AllByCons.{Contains-none, Contains-first, Contains-later}
-use Rattle.dl_syntax.proofs.AllByCons.{Contains-cons_cases, AllPairs-head, AllPairs-tail}
+use Rattle.list_lemmas.proofs.Elements.{Contains-none, Contains-first, Contains-later}
+use Rattle.list_lemmas.proofs.Elements.{Contains-cons_cases, AllPairs-head, AllPairs-tail}
 use Rattle.formula_store.specs.Interned.{AreDistinct}
 use Rattle.answer_tables.specs.Tuples.{tuples}
 use Rattle.answer_tables.specs.Table.{Antichains, HasAntichain, at}

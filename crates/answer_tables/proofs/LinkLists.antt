@@ -9,7 +9,7 @@ use Rattle.std.proofs.lemmas.Bool.{cases_lt}
 use Rattle.std.proofs.lemmas.List.{append-nil}
 use Rattle.std.proofs.Math.Nat.{pow-suc, pow-zero}
 use Rattle.dl_syntax.specs.declared.names.IndId.{IndId}
-use Rattle.dl_syntax.proofs.AllByCons.{Contains-first, Contains-later, Contains-cons_cases}
+use Rattle.list_lemmas.proofs.Elements.{Contains-first, Contains-later, Contains-cons_cases}
 use Rattle.formula_store.specs.Interned.{AreDistinct}
 use Rattle.formula_store.proofs.Antichains.{Tested, tested}
 use Rattle.answer_tables.specs.declared.run.Run.{Run}

@@ -7,7 +7,7 @@ use Rattle.std.proofs.lemmas.Bool.{cases_lt}
 use Rattle.std.proofs.Math.Nat.{mul-le-mul_left}
 use Rattle.dl_syntax.specs.declared.names.IndId.{IndId}
 use Rattle.dl_syntax.specs.Rows.{IsBelow, IsAboveLast}
-use Rattle.dl_syntax.proofs.AllByCons.{Contains-first, Contains-later}
+use Rattle.list_lemmas.proofs.Elements.{Contains-first, Contains-later}
 use Rattle.answer_tables.specs.Tuples.{IsTuple, number}
 use Rattle.answer_tables.proofs.Numbers.{Digits, tail_digits, number-below}
 

@@ -5,8 +5,8 @@ use Rattle.std.specs.Prelude.{◌⊎◌, All, Some, slice_get}
 use Rattle.std.specs.List.{Contains}
 use Rattle.dl_syntax.specs.declared.names.IndId.{IndId}
 use Rattle.dl_syntax.specs.Rows.{IsBelow, IsRising}
-use Rattle.dl_syntax.proofs.AllByCons.{Contains-first, Contains-later, Contains-cons_cases}
-use Rattle.dl_syntax.proofs.AllByCons.{AllPairs-head, AllPairs-tail}
+use Rattle.list_lemmas.proofs.Elements.{Contains-first, Contains-later, Contains-cons_cases}
+use Rattle.list_lemmas.proofs.Elements.{AllPairs-head, AllPairs-tail}
 
 row_there : (rows : List (List IndId)) (i : ℕ) (row : List IndId) → slice_get rows i ≡ Some row
     → Contains rows row

@@ -1,4 +1,3 @@
-pub mod Zipped
 pub mod ClashQueries
 pub mod Meeting
 pub mod Matches

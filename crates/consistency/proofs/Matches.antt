@@ -11,7 +11,7 @@ use Rattle.dl_syntax.specs.declared.facts.Fact.{Fact}
 use Rattle.dl_syntax.specs.declared.queries.Term.{Term}
 use Rattle.dl_syntax.specs.declared.queries.Cq.{Cq}
 use Rattle.dl_syntax.specs.Match.{Assignment, term_at}
-use Rattle.dl_syntax.proofs.AllByCons.{Contains-none, Contains-first, Contains-single}
+use Rattle.list_lemmas.proofs.Elements.{Contains-none, Contains-first, Contains-single}
 use Rattle.ucq_join.specs.Answers.{IsAnswer, IsUnionAnswer}
 use Rattle.consistency.specs.Asking.{HasEmptyHead}
 

@@ -35,8 +35,8 @@ use Rattle.consistency.specs.Matching.{part_of, AsksForMatch, HasMatchIn, NoneBe
 use Rattle.consistency.specs.Matching.{IsFirstMatch, AgreeOnPart}
 use Rattle.consistency.specs.Prepared.{Prepared, IsPrepared, IsPreparedFor, IsRewriting}
 use Rattle.consistency.specs.Prepared.{AgreeOnCores, encoding_of}
-use Rattle.consistency.proofs.Zipped.{AllZip-right, AllZip-left, AllZip-combined, AllZip-all}
-use Rattle.consistency.proofs.Zipped.{AllZip-length}
+use Rattle.list_lemmas.proofs.Zipped.{AllZip-right, AllZip-left, AllZip-combined, AllZip-all}
+use Rattle.list_lemmas.proofs.Zipped.{AllZip-length}
 use Rattle.consistency.proofs.ClashQueries.{clash_is_asked, query_is_query, query_is_declared}
 
 -- the core holds queries within the limits, with heads as long

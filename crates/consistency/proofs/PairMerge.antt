@@ -20,8 +20,8 @@ use Rattle.dl_syntax.specs.declared.facts.Fact.TheVariants as fact
 use Rattle.dl_syntax.specs.declared.queries.Term.{Term}
 use Rattle.dl_syntax.specs.Match.{Assignment, term_at}
 use Rattle.fact_index.specs.Order.{fact_cmp, last_cmp, element_cmp, is_of_role}
-use Rattle.fact_index.proofs.Orders.{fact_cmp-total, last_cmp-total, sorted_from_strict}
-use Rattle.fact_index.proofs.Dedup.{Contains-filter}
+use Rattle.fact_index.proofs.Orders.{fact_cmp-total, last_cmp-total}
+use Rattle.list_lemmas.proofs.Filters.{sorted_from_strict, Contains-filter}
 use Rattle.consistency.specs.Pairs.{as_fact_of, Rises, Passed}
 
 then_same : (m n : ℕ) (o : Ordering) → m ≡ n → ordering_then (nat_cmp m n) o ≡ o

@@ -37,17 +37,13 @@ use Rattle.dl_syntax.specs.declared.queries.Atom.{Atom}
 use Rattle.dl_syntax.specs.declared.queries.Atom.TheVariants as atom
 use Rattle.dl_syntax.specs.declared.queries.Cq.{Cq}
 use Rattle.dl_syntax.specs.Match.{Assignment, Match, term_at, atom_at}
-use Rattle.dl_syntax.proofs.AllByCons.{
-  Contains-none,
-  Contains-first,
-  Contains-later,
-  Contains-cons_cases,
-}
+use Rattle.list_lemmas.proofs.Elements.{Contains-none, Contains-first, Contains-later}
+use Rattle.list_lemmas.proofs.Elements.{Contains-cons_cases}
+use Rattle.list_lemmas.proofs.Maps.{map_both}
 use Rattle.query_unify.specs.Substitution.{Substitution, applied, applied_atom, applied_query}
 use Rattle.query_unify.specs.Laws.{Gives}
 use Rattle.query_unify.proofs.Matches.{after, Gives-applied, Gives-from_applied}
 use Rattle.ucq_join.specs.Answers.{IsAnswer}
-use Rattle.models.proofs.MapLists.{map_both}
 use Rattle.contain_test.specs.Binding.{bound_to, Becomes}
 
 -- the query with an empty head, its body under the substitution that sends its head to the row

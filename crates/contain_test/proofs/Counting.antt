@@ -3,11 +3,12 @@ use Rattle.std.proofs.Common.{◌≡◌, ℕ, ◌+◌, ◌-◌, ◌<◌, ◌≤�
 use Rattle.std.specs.List.{AllZip}
 use Rattle.std.proofs.lemmas.List.Elements.{All-contains}
 use Rattle.std.proofs.lemmas.List.Sums.{sum_by-cons}
+use Rattle.list_lemmas.proofs.Distinct.{distinct_is_no_longer}
 use Rattle.dl_syntax.specs.declared.queries.Cq.{Cq}
 use Rattle.dl_syntax.specs.Ontology.{Declared}
 use Rattle.perfect_ref.specs.Plain.{encoded, Reachable, HoldsOf, HoldsOfMore}
 use Rattle.perfect_ref.specs.Counting.{length_in_all, AreReached, ReachMore}
-use Rattle.perfect_ref.proofs.Counting.{all_one, fewer, more_among, more_later}
+use Rattle.perfect_ref.proofs.Counting.{all_one, more_among, more_later}
 use Rattle.consistency.specs.Asking.{queries_of}
 use Rattle.contain_test.specs.Rewritings.{ReachMoreTogether}
 
@@ -35,7 +36,7 @@ module _ (o : Declared) (q : Cq) (room : ℕ) where
         go [] each more = absurd each
         go (own ∷ others) each more =
             let short : length own ≤ length holds.0 =
-            fewer own holds.0 each.0.distinct
+            distinct_is_no_longer own holds.0 each.0.distinct
             (λ p there. holds.1.complete p
             (All-contains (Reachable (encoded o) q) own p each.0.sound there)) in
             let long : length holds.0 ≡ count = holds.2 in

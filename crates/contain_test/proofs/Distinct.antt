@@ -37,17 +37,13 @@ use Rattle.dl_syntax.specs.declared.queries.Atom.TheVariants as atom
 use Rattle.dl_syntax.specs.declared.queries.Cq.{Cq}
 use Rattle.dl_syntax.specs.Facts.{HasNoNull}
 use Rattle.dl_syntax.specs.Snapshots.{IsSnapshot}
-use Rattle.dl_syntax.proofs.AllByCons.{
-  All-from_contains,
-  AllPairs-nil,
-  AllPairs-head,
-  AllPairs-tail,
-}
+use Rattle.list_lemmas.proofs.Elements.{All-from_contains, AllPairs-nil, AllPairs-head}
+use Rattle.list_lemmas.proofs.Elements.{AllPairs-tail}
+use Rattle.list_lemmas.proofs.Maps.{Contains-from_map}
 use Rattle.query_unify.specs.Normal.{first_places, normalise, numbering, same_atom}
 use Rattle.query_unify.specs.Substitution.{applied_atom}
 use Rattle.query_unify.proofs.Repeats.{same_atom-itself}
 use Rattle.models.specs.Containment.{IsTermBelow, IsAtomBelow, frozen_term, frozen_atom, frozen}
-use Rattle.models.proofs.MapLists.{map_only}
 use Rattle.models.proofs.Freezing.{frozen_plain}
 
 module _ {X : Type 0} (same : X → X → Bool) (itself : (x : X) → same x x ≡ true) where
@@ -106,7 +102,7 @@ module _ (bound : ℕ) where
   frozen_distinct (a ∷ body) distinct below =
       AllPairs-cons (λ f g. f ≢ g) (frozen_atom bound a) (map (frozen_atom bound) body)
       (All-from_contains (λ g. frozen_atom bound a ≢ g) (map (frozen_atom bound) body)
-      (λ g there. other g (map_only (frozen_atom bound) body g there)))
+      (λ g there. other g (Contains-from_map (frozen_atom bound) body g there)))
       (frozen_distinct body (AllPairs-tail (λ b d. b ≢ d) a body distinct)
       (All-tail (IsAtomBelow bound) a body below))
     where

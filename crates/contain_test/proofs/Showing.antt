@@ -32,7 +32,7 @@ use Rattle.dl_syntax.specs.Facts.{HasNoNull}
 use Rattle.dl_syntax.specs.Match.{Certain, atom_at}
 use Rattle.dl_syntax.specs.Ontology.{Declared}
 use Rattle.dl_syntax.specs.Queries.{IsQuery}
-use Rattle.dl_syntax.proofs.AllByCons.{All-from_contains, Contains-single}
+use Rattle.list_lemmas.proofs.Elements.{All-from_contains, Contains-single}
 use Rattle.query_unify.specs.Normal.{normalise}
 use Rattle.perfect_ref.specs.Plain.{encoded, PlainReachable, Lists}
 use Rattle.dl_syntax.specs.Encode.{IsOverOntology}

@@ -21,24 +21,15 @@ use Rattle.dl_syntax.specs.Facts.{HasNoNull}
 use Rattle.dl_syntax.specs.Chase.{Run, Chase, Step, start, step, Makes, Meets, basic_fact}
 use Rattle.dl_syntax.specs.Encode.{IsMet, IsReached}
 use Rattle.dl_syntax.specs.Match.{Certain, Match, Assignment, term_at, atom_at}
-use Rattle.dl_syntax.proofs.AllByCons.{Contains-none, Contains-first, Contains-later}
-use Rattle.dl_syntax.proofs.AllByCons.{Contains-cons_cases}
+use Rattle.list_lemmas.proofs.Elements.{Contains-none, Contains-first, Contains-later}
+use Rattle.list_lemmas.proofs.Elements.{Contains-cons_cases}
+use Rattle.list_lemmas.proofs.Maps.{Contains-map}
 use Rattle.dl_syntax.proofs.Nulls.{HasOldElements, no_null_old, nulls_are_old}
 use Rattle.dl_syntax.proofs.Images.{fact_at, override, override_new, fact_at_old, fact_at_itself}
 use Rattle.dl_syntax.proofs.Images.{role_fact_at, basic_fact_at, Pair-at, In-at}
 use Rattle.dl_syntax.proofs.RunLaws.{Run-step}
 use Rattle.dl_syntax.proofs.Simulation.{IsWithin}
 use Rattle.dl_syntax.proofs.EncodingLaws.{then_image, atom_image, head_image, without_nulls_image}
-
-Contains-map : {X Y : Type 0} (g : X → Y) (xs : List X) (x : X) → Contains xs x
-    → Contains (map g xs) (g x)
-Contains-map g [] x there = absurd (Contains-none x there)
-Contains-map {X} {Y} g (y ∷ xs) x there =
-    elim (Contains-cons_cases y xs x there) [
-      | inl same ↦ subst (λ (z : X). Contains (g y ∷ map g xs) (g z)) same
-          (Contains-first (g y) (map g xs))
-      | inr later ↦ Contains-later (g y) (map g xs) (g x) (Contains-map g xs x later)
-    ]
 
 -- what an inclusion makes from a fact's image is the image of what it makes
 Makes-at : (g : Element → Element) (place other : ℕ) → g (Null place) ≡ Null other

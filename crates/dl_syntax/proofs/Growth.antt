@@ -2,20 +2,14 @@
 use Rattle.std.proofs.Common.{◌≡◌, ℕ, zero, suc, Bool, List, [], ◌++◌, length, refl, sym, subst}
 use Rattle.std.specs.Prelude.{Option, Some, None, Result, Ok, Err, IfOk, OnErr, slice_get}
 use Rattle.std.proofs.lemmas.List.{append-nil}
-use Rattle.std.proofs.lemmas.List.Elements.{Contains-get_or}
-use Rattle.std.proofs.lemmas.Option.{slice_get_within, get_or_from_slice_get, none-some}
+use Rattle.std.proofs.lemmas.Option.{none-some}
 use Rattle.std.specs.List.{Contains}
+use Rattle.list_lemmas.proofs.Elements.{Contains-at}
 use Rattle.dl_syntax.specs.declared.facts.Fact.{Fact}
 use Rattle.dl_syntax.specs.declared.ontology.Inclusion.{Inclusion}
 use Rattle.dl_syntax.specs.Chase.{Run}
 use Rattle.dl_syntax.specs.Growing.{inclusion_of, made_of_both, made_at}
 use Rattle.dl_syntax.proofs.RunLaws.{grown_is_run}
-
--- what stands at a place is contained
-pub Contains-at : {X : Type 0} (xs : List X) (place : ℕ) (x : X) → slice_get xs place ≡ Some x
-    → Contains xs x
-Contains-at xs place x at = subst (Contains xs) (get_or_from_slice_get xs place x x at)
-    (Contains-get_or xs place x (slice_get_within xs place x at))
 
 listed_at : (inclusions : List Inclusion) (number : ℕ) (i : Inclusion)
     → inclusion_of inclusions number ≡ Some i → Contains inclusions i

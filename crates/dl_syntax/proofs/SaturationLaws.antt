@@ -24,7 +24,7 @@ use Rattle.dl_syntax.specs.Saturation.{
   SaturationKeepsClashes,
   SaturationKeepsConsistency,
 }
-use Rattle.dl_syntax.proofs.AllByCons.{Contains-single, All-from_contains}
+use Rattle.list_lemmas.proofs.Elements.{Contains-single, All-from_contains}
 use Rattle.dl_syntax.proofs.Nulls.{IsOld, HasOldElements, role_fact_old, In-old, each_of_one}
 use Rattle.dl_syntax.proofs.Nulls.{each_of_two, no_null_old}
 use Rattle.dl_syntax.proofs.Images.{role_fact_declared, basic_fact_declared}

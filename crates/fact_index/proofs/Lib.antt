@@ -1,5 +1,4 @@
 pub mod Orders
 pub mod SortedRuns
 pub mod PredicateTests
-pub mod Dedup
 pub mod OneFact

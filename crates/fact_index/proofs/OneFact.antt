@@ -2,7 +2,7 @@
 use Rattle.std.specs.Prelude.{◌≢◌, [], ◌∷◌}
 use Rattle.std.proofs.lemmas.List.Elements.{All-nil, All-cons}
 use Rattle.std.proofs.lemmas.List.Kept.{AllPairs-cons}
-use Rattle.dl_syntax.proofs.AllByCons.{AllPairs-nil}
+use Rattle.list_lemmas.proofs.Elements.{AllPairs-nil}
 use Rattle.dl_syntax.specs.declared.facts.Fact.{Fact}
 use Rattle.dl_syntax.specs.Facts.{HasNoNull}
 use Rattle.dl_syntax.specs.Snapshots.{IsSnapshot}

@@ -1,11 +1,8 @@
 -- The orders of elements and facts are total, and ties are equal.
-use Rattle.std.specs.Prelude.{◌≡◌, ℕ, Bool, true, false, refl, List, [], ◌∷◌, zero, suc, ◌+◌}
-use Rattle.std.specs.Ordering.{is_eq, is_lt, nat_cmp, ordering_then, ordering_reverse, eq_by_cmp}
-use Rattle.std.specs.List.Sorted.{IsSorted, IsStrictlySortedBy}
-use Rattle.std.proofs.lemmas.Map.Keys.{sorted_tail}
-use Rattle.std.proofs.lemmas.Map.Views.{All-after_first}
+use Rattle.std.specs.Prelude.{◌≡◌, ℕ, Bool, true, refl}
+use Rattle.std.specs.Ordering.{is_eq, nat_cmp, ordering_then, eq_by_cmp}
 use Rattle.std.specs.declared.cmp.Ordering.TheVariants.{Less, Equal, Greater}
-use Rattle.std.proofs.Common.{sym, ◌∙◌, ap, subst, arith, get_or}
+use Rattle.std.proofs.Common.{sym, ◌∙◌, ap}
 use Rattle.std.proofs.lemmas.Map.Lookups.{CmpEqualImpliesEq, exact_unsigned}
 use Rattle.std.proofs.lemmas.Cmp.{tied_itself, eq_by_cmp_equiv, on_total}
 use Rattle.std.specs.declared.cmp.Ordering.{Ordering}
@@ -97,15 +94,3 @@ fact_eq-equiv = record {
   congr = λ x y z h. fact_eq-ties x z ∙ ((eq_by_cmp_equiv fact_cmp-total).congr x y z
       (sym (fact_eq-ties x y) ∙ h) ∙ sym (fact_eq-ties y z));
 }
-
--- a strictly rising list is sorted
-pub sorted_from_strict : {K : Type 0} {R : K → K → Ordering} (o : IsTotalOrder R) (xs : List K)
-    → IsStrictlySortedBy R xs → IsSorted R xs
-sorted_from_strict o [] h k d lo hi = absurd (omega arith)
-sorted_from_strict {R = R} o (x ∷ xs) h zero d lo hi =
-    let less : R x (get_or xs 0 d) ≡ Less = All-after_first R x xs h 0 d (omega arith) in
-    ap is_lt (o.antisymm (get_or xs 0 d) x ∙ ap ordering_reverse less)
-sorted_from_strict {R = R} o (x ∷ xs) h (suc k) d lo hi =
-    let P : ℕ → Type 0 = λ n. is_lt (R (get_or (x ∷ xs) n d) (get_or xs k d)) ≡ false in
-    let e : suc (k + 1) ≡ suc k + 1 = omega arith in
-    subst P e (sorted_from_strict o xs (sorted_tail R x xs h) k d (omega arith) (omega arith))

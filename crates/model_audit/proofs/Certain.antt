@@ -17,7 +17,7 @@ use Rattle.ucq_join.specs.Answers.{IsAnswer}
 use Rattle.model_audit.specs.FiniteModels.{IsFiniteModel}
 use Rattle.model_audit.specs.Rows.{AreRowsOf, AreRowsOfQuery, AreRowsOfQueries, leaf_queries}
 use Rattle.model_audit.specs.Auditing.{AreAmong}
-use Rattle.model_audit.proofs.Leaves.{zip_weaker}
+use Rattle.list_lemmas.proofs.Zipped.{AllZip-weaker}
 use Rattle.model_audit.proofs.Modelling.{certain_answers_match}
 
 answer_alike : (q : Cq) (row : List IndId) (one other : List Fact)
@@ -54,10 +54,11 @@ module _ (held facts : List Fact) (same : (f : Fact) → Contains held f ↔ Con
   pub all_rows_alike : (queries : List Tcq) (rows : List (Vec Relation Global))
       → AreRowsOfQueries held count queries rows → AreRowsOfQueries facts count queries rows
   all_rows_alike queries rows are =
-      zip_weaker (λ query (each : Vec Relation Global). AreRowsOfQuery held count query each.items)
+      AllZip-weaker
+      (λ query (each : Vec Relation Global). AreRowsOfQuery held count query each.items)
       (λ query (each : Vec Relation Global). AreRowsOfQuery facts count query each.items)
       (λ query each is.
-      zip_weaker (AreRowsOf held count) (AreRowsOf facts count) rows_alike
+      AllZip-weaker (AreRowsOf held count) (AreRowsOf facts count) rows_alike
       (leaf_queries query.nodes) each.items is)
       queries rows are
 
@@ -77,10 +78,11 @@ module _ (o : Declared) (snapshot facts : List Fact) (plain : All HasNoNull snap
       AllZip (AreAmong o.inclusions snapshot count) (leaf_queries query.nodes) each.items)
       queries rows
   all_certain_among queries rows are =
-      zip_weaker (λ query (each : Vec Relation Global). AreRowsOfQuery facts count query each.items)
+      AllZip-weaker
+      (λ query (each : Vec Relation Global). AreRowsOfQuery facts count query each.items)
       (λ query (each : Vec Relation Global).
       AllZip (AreAmong o.inclusions snapshot count) (leaf_queries query.nodes) each.items)
       (λ query each is.
-      zip_weaker (AreRowsOf facts count) (AreAmong o.inclusions snapshot count) certain_among
+      AllZip-weaker (AreRowsOf facts count) (AreAmong o.inclusions snapshot count) certain_among
       (leaf_queries query.nodes) each.items is)
       queries rows are

@@ -13,7 +13,7 @@ use Rattle.dl_syntax.specs.declared.ontology.Clash.{Clash}
 use Rattle.dl_syntax.specs.declared.ontology.Clash.TheVariants as clash
 use Rattle.dl_syntax.specs.Facts.{role_fact}
 use Rattle.dl_syntax.specs.Ontology.{Declared}
-use Rattle.dl_syntax.proofs.AllByCons.{All-from_contains}
+use Rattle.list_lemmas.proofs.Elements.{All-from_contains}
 use Rattle.model_audit.specs.FiniteModels.{
   IsMember,
   HasPartner,

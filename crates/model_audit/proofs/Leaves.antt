@@ -1,75 +1,21 @@
 -- The leaves of a table of nodes, and lists that are gathered for them.
-use Rattle.std.proofs.Common.{
-  ◌≡◌,
-  ℕ,
-  suc,
-  ◌+◌,
-  ◌<◌,
-  ◌≤◌,
-  List,
-  [],
-  ◌∷◌,
-  ◌++◌,
-  take,
-  length,
-  get_or,
-  refl,
-  sym,
-  ◌∙◌,
-  ap,
-  subst,
-  arith,
-  append-nil,
-}
+use Rattle.std.proofs.Common.{◌≡◌, ℕ, suc, ◌+◌, ◌<◌, ◌≤◌, List, [], ◌∷◌, ◌++◌, take, length, get_or}
+use Rattle.std.proofs.Common.{refl, sym, ◌∙◌, ap, subst, arith}
 use Rattle.std.specs.Prelude.{Some}
-use Rattle.std.specs.List.{AllPairs, AllZip, Contains}
-use Rattle.std.proofs.lemmas.List.{take_more, take_all}
+use Rattle.std.specs.List.{AllPairs, Contains}
+use Rattle.std.proofs.lemmas.List.{take_more}
 use Rattle.std.proofs.lemmas.List.Elements.{All-contains}
 use Rattle.std.proofs.lemmas.Option.{slice_get-get_or}
 use Rattle.dl_syntax.specs.declared.queries.Term.{Term}
 use Rattle.dl_syntax.specs.declared.queries.Term.TheVariants.{Var}
 use Rattle.dl_syntax.specs.declared.queries.Cq.{Cq}
 use Rattle.dl_syntax.specs.Queries.{IsQuery}
-use Rattle.dl_syntax.proofs.AllByCons.{AllPairs-tail, AllPairs-head, Contains-first, Contains-later}
+use Rattle.list_lemmas.proofs.Elements.{AllPairs-tail, AllPairs-head, Contains-first}
+use Rattle.list_lemmas.proofs.Elements.{Contains-later}
 use Rattle.tcq_syntax.specs.declared.nodes.Node.{Node}
 use Rattle.tcq_syntax.specs.declared.nodes.Node.TheVariants as node
 use Rattle.tcq_syntax.specs.Tcq.{IsTcq, IsAnswerHead}
 use Rattle.model_audit.specs.Rows.{leaf_queries}
-
-pub zip_added : {A B : Type 0} (R : A → B → Type 0) (xs : List A) (ys : List B) (x : A) (y : B)
-    → AllZip R xs ys → R x y
-    → AllZip R (xs ++ x ∷ []) (ys ++ y ∷ [])
-zip_added R [] [] x y zipped last = (last, tt)
-zip_added R [] (w ∷ ys) x y zipped last = absurd zipped
-zip_added R (v ∷ xs) [] x y zipped last = absurd zipped
-zip_added R (v ∷ xs) (w ∷ ys) x y zipped last = (zipped.0, zip_added R xs ys x y zipped.1 last)
-
-pub zip_next : {A B : Type 0} (R : A → B → Type 0) (xs : List A) (ys new : List B) (k : ℕ) (d : A)
-    (y : B) → k < length xs
-    → AllZip R (take k xs) ys → R (get_or xs k d) y → new ≡ ys ++ y ∷ []
-    → AllZip R (take (k + 1) xs) new
-zip_next R xs ys new k d y within before last same =
-    rw (same, take_more xs k d within) (zip_added R (take k xs) ys (get_or xs k d) y before last)
-
-pub zip_all : {A B : Type 0} (R : A → B → Type 0) (xs : List A) (ys : List B) (k : ℕ)
-    → length xs ≤ k → AllZip R (take k xs) ys → AllZip R xs ys
-zip_all {A} R xs ys k long zipped =
-    subst (λ (zs : List A). AllZip R zs ys) (take_all k xs long) zipped
-
-pub zip_weaker : {A B : Type 0} (R S : A → B → Type 0) → ((x : A) (y : B) → R x y → S x y)
-    → (xs : List A) (ys : List B)
-    → AllZip R xs ys → AllZip S xs ys
-zip_weaker R S make [] [] zipped = tt
-zip_weaker R S make [] (y ∷ ys) zipped = absurd zipped
-zip_weaker R S make (x ∷ xs) [] zipped = absurd zipped
-zip_weaker R S make (x ∷ xs) (y ∷ ys) zipped =
-    (make x y zipped.0, zip_weaker R S make xs ys zipped.1)
-
-pub zip_nothing : {A B : Type 0} (R : A → B → Type 0) (front : List A) (none : List A) (ys : List B)
-    → none ≡ [] → AllZip R front ys
-    → AllZip R (front ++ none) ys
-zip_nothing {A} R front none ys is zipped =
-    rw is (subst (λ (zs : List A). AllZip R zs ys) (sym (append-nil front)) zipped)
 
 leaf_queries-append : (front rest : List Node) → leaf_queries (front ++ rest) ≡ leaf_queries front
     ++ leaf_queries rest

@@ -31,9 +31,9 @@ use Rattle.dl_syntax.specs.declared.ontology.Role.{Role}
 use Rattle.dl_syntax.specs.declared.ontology.Basic.TheVariants as basic
 use Rattle.dl_syntax.specs.Facts.{In, Pair, pair_in, role_fact}
 use Rattle.dl_syntax.proofs.FactLaws.{pair_in-Pair}
-use Rattle.dl_syntax.proofs.AllByCons.{Contains-none, Contains-first}
+use Rattle.list_lemmas.proofs.Elements.{Contains-none, Contains-first}
+use Rattle.list_lemmas.proofs.Filters.{Contains-filter}
 use Rattle.fact_index.specs.Order.{is_of_concept, is_of_role, first_of, last_of, element_eq}
-use Rattle.fact_index.proofs.Dedup.{Contains-filter}
 use Rattle.fact_index.proofs.Orders.{element_eq-same, element_eq-refl}
 use Rattle.model_audit.specs.FiniteModels.{IsMember, HasPartner, ShowsPartner}
 

@@ -12,7 +12,7 @@ use Rattle.dl_syntax.specs.declared.ontology.Clash.{Clash}
 use Rattle.dl_syntax.specs.declared.ontology.Clash.TheVariants as clash
 use Rattle.dl_syntax.specs.Facts.{HasNoNull, In, role_fact}
 use Rattle.dl_syntax.specs.Match.{atom_at}
-use Rattle.dl_syntax.proofs.AllByCons.{All-from_contains}
+use Rattle.list_lemmas.proofs.Elements.{All-from_contains}
 use Rattle.models.specs.Models as models
 use Rattle.models.specs.Models.{Interpretation, IsModel, IsIn, Holds, AtomHolds, Answers}
 use Rattle.models.specs.Laws.{listed}

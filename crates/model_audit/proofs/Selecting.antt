@@ -37,12 +37,8 @@ use Rattle.dl_syntax.specs.declared.facts.Fact.{Fact}
 use Rattle.dl_syntax.specs.declared.queries.Cq.{Cq}
 use Rattle.dl_syntax.specs.Match.{term_at}
 use Rattle.dl_syntax.specs.Rows.{Relation, IsBelow, IsRising, IsAboveLast}
-use Rattle.dl_syntax.proofs.AllByCons.{
-  Contains-none,
-  Contains-first,
-  Contains-single,
-  AllPairs-across,
-}
+use Rattle.list_lemmas.proofs.Elements.{Contains-none, Contains-first, Contains-single}
+use Rattle.list_lemmas.proofs.Elements.{AllPairs-across}
 use Rattle.ucq_join.specs.Answers.{IsAnswer, IsUnionAnswer}
 use Rattle.ucq_join.proofs.RowOrder.{above_last}
 use Rattle.model_audit.specs.Rows.{IsDeclared, AreRowsOf}

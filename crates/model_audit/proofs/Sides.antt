@@ -14,7 +14,7 @@ use Rattle.dl_syntax.specs.declared.ontology.Clash.{Clash}
 use Rattle.dl_syntax.specs.declared.ontology.Clash.TheVariants as clash
 use Rattle.dl_syntax.specs.Facts.{In, Pair, element_in, pair_in, role_fact}
 use Rattle.dl_syntax.specs.Laws.{Applies}
-use Rattle.dl_syntax.proofs.AllByCons.{All-from_contains}
+use Rattle.list_lemmas.proofs.Elements.{All-from_contains}
 use Rattle.dl_syntax.proofs.FactLaws.{pair_in-Pair, Pair-pair_in, element_in-In, In-element_in}
 use Rattle.model_audit.specs.FiniteModels.{IsMember, HasPartner, Keeps, IsApart, Avoids}
 use Rattle.model_audit.specs.Clashes.{IsOnLeft}

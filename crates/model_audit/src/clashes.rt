@@ -5,9 +5,8 @@ ghost use Rattle.dl_syntax.specs.declared.facts.Fact.{Fact as FactValue};
 ghost use Rattle.model_audit.specs.FiniteModels.{IsApart, Avoids};
 ghost use Rattle.model_audit.specs.Clashes.{IsOnLeft};
 
-use crate::facts::{element_in, pair_in, role_fact};
 use crate::holding::{is_member, members_of, pairs_of};
-use dl_syntax::{Clash, Fact};
+use dl_syntax::{Clash, Fact, element_in, pair_in, role_fact};
 use fact_index::Index;
 
 /// Whether the other side lacks whatever the fact puts into the first side.

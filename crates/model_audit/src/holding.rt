@@ -6,8 +6,7 @@ ghost use Rattle.dl_syntax.specs.declared.facts.Fact.{Fact as FactValue};
 ghost use Rattle.dl_syntax.specs.Facts.{In, Pair};
 ghost use Rattle.model_audit.specs.FiniteModels.{IsMember, HasPartner, ShowsPartner};
 
-use crate::facts::pair_in;
-use dl_syntax::{Basic, ConceptId, Element, Fact, Role};
+use dl_syntax::{Basic, ConceptId, Element, Fact, Role, pair_in};
 use fact_index::{Index, with_first, with_last};
 
 /// The facts that make a pair of the role.

@@ -5,9 +5,8 @@ ghost use Rattle.dl_syntax.specs.declared.facts.Fact.{Fact as FactValue};
 ghost use Rattle.dl_syntax.specs.Laws.{Applies};
 ghost use Rattle.model_audit.specs.FiniteModels.{Keeps, Satisfies};
 
-use crate::facts::{element_in, pair_in, role_fact};
 use crate::holding::{has_partner, is_member, members_of, pairs_of};
-use dl_syntax::{Fact, Inclusion};
+use dl_syntax::{Fact, Inclusion, element_in, pair_in, role_fact};
 use fact_index::Index;
 
 /// Whether the right side is there wherever the fact makes the left side true.

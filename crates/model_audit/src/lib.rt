@@ -9,7 +9,6 @@
 mod auditing;
 mod clashes;
 mod examining;
-mod facts;
 mod first;
 mod holding;
 mod inclusions;

@@ -20,8 +20,8 @@ use Rattle.dl_syntax.specs.declared.ontology.Clash.TheVariants as clash
 use Rattle.dl_syntax.specs.declared.queries.Cq.{Cq}
 use Rattle.dl_syntax.specs.Facts.{In, role_fact}
 use Rattle.dl_syntax.specs.Chase.{Run, Chase, Step, start, step, Makes, Meets, basic_fact}
-use Rattle.dl_syntax.proofs.AllByCons.{All-from_contains, Contains-first, Contains-later}
-use Rattle.dl_syntax.proofs.Nulls.{HasOldElements, In-old, nulls_are_old}
+use Rattle.list_lemmas.proofs.Elements.{All-from_contains, Contains-first, Contains-later}
+use Rattle.dl_syntax.proofs.Nulls.{HasOldElements, In-old, no_null_old, nulls_are_old}
 use Rattle.dl_syntax.specs.Match.{Certain, atom_at}
 use Rattle.models.specs.Models.{AtomHolds, Avoids, Holds, HoldsAt, MapsInto, Answers, element_at}
 use Rattle.models.specs.Laws.{
@@ -31,7 +31,7 @@ use Rattle.models.specs.Laws.{
   CertainAnswersMapAlong,
   ClashesMapAlong,
 }
-use Rattle.models.proofs.Holding.{no_null_old, Holds-plain, Holds-at, Pair-holds, In-holds}
+use Rattle.models.proofs.Holding.{Holds-plain, Holds-at, Pair-holds, In-holds}
 use Rattle.models.proofs.IntoModels.{
   basic_maps,
   pair_maps,

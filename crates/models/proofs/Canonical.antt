@@ -39,7 +39,7 @@ use Rattle.dl_syntax.specs.declared.queries.Cq.{Cq}
 use Rattle.dl_syntax.specs.Facts.{In, role_fact, HasNoNull}
 use Rattle.dl_syntax.specs.Chase.{Run, Makes, Meets, IsConsistent, basic_fact, made_by}
 use Rattle.dl_syntax.specs.Match.{Assignment, Certain, atom_at}
-use Rattle.dl_syntax.proofs.AllByCons.{All-from_contains, Contains-first, Contains-later}
+use Rattle.list_lemmas.proofs.Elements.{All-from_contains, Contains-first, Contains-later}
 use Rattle.dl_syntax.proofs.RunLaws.{made_is_fixed}
 use Rattle.models.specs.Models.{Satisfies, Avoids, Holds, IsModel, Answers, AtomHolds}
 use Rattle.models.specs.Laws.{

@@ -12,7 +12,7 @@ use Rattle.dl_syntax.specs.declared.queries.Cq.{Cq}
 use Rattle.dl_syntax.specs.Facts.{HasNoNull}
 use Rattle.dl_syntax.specs.Chase.{Run, Chase, Step, start, step, IsConsistent}
 use Rattle.dl_syntax.specs.Match.{Certain}
-use Rattle.dl_syntax.proofs.AllByCons.{All-from_contains, Contains-none}
+use Rattle.list_lemmas.proofs.Elements.{All-from_contains, Contains-none}
 use Rattle.models.specs.Models.{Holds, IsModel, Answers}
 use Rattle.models.specs.Laws.{listed, united}
 use Rattle.models.specs.Entailment.{

@@ -27,12 +27,8 @@ use Rattle.std.proofs.lemmas.List.Elements.{
 use Rattle.dl_syntax.specs.declared.facts.Fact.{Fact}
 use Rattle.dl_syntax.specs.declared.ontology.Inclusion.{Inclusion}
 use Rattle.dl_syntax.specs.Chase.{Run, Step, start, made_by}
-use Rattle.dl_syntax.proofs.AllByCons.{
-  Contains-none,
-  Contains-first,
-  Contains-later,
-  Contains-cons_cases,
-}
+use Rattle.list_lemmas.proofs.Elements.{Contains-none, Contains-first, Contains-later}
+use Rattle.list_lemmas.proofs.Elements.{Contains-cons_cases}
 use Rattle.dl_syntax.proofs.RunLaws.{grown_is_run}
 use Rattle.models.specs.Laws.{IsFair, HasFairRuns}
 

@@ -37,7 +37,8 @@ use Rattle.dl_syntax.specs.declared.queries.Cq.{Cq}
 use Rattle.dl_syntax.specs.Facts.{HasNoNull}
 use Rattle.dl_syntax.specs.Chase.{Run, IsConsistent, start}
 use Rattle.dl_syntax.specs.Match.{Assignment, Certain, term_at, atom_at}
-use Rattle.dl_syntax.proofs.AllByCons.{All-from_contains}
+use Rattle.list_lemmas.proofs.Elements.{All-from_contains}
+use Rattle.list_lemmas.proofs.Maps.{map_both, Contains-map, Contains-from_map, map_twice}
 use Rattle.models.specs.Models.{Holds, Answers}
 use Rattle.models.specs.Laws.{listed}
 use Rattle.models.specs.Containment.{
@@ -52,7 +53,6 @@ use Rattle.models.specs.Containment.{
   IsContained,
   ContainmentIsCertainty,
 }
-use Rattle.models.proofs.MapLists.{map_both, map_has, map_only, map_twice}
 use Rattle.models.proofs.Having.{KeepsTerm, KeepsAtom}
 use Rattle.models.proofs.AlongMaps.{listed_answer, certain_answers_map_along, clashes_map_along}
 
@@ -80,7 +80,7 @@ module _ (bound : ℕ) where
     match = All-from_contains (λ a. Contains (frozen bound q) (atom_at own a)) q.body
         (λ a there.
         subst (Contains (frozen bound q)) (own_atom a)
-        (map_has (frozen_atom bound) q.body a there));
+        (Contains-map (frozen_atom bound) q.body a there));
     head = sym (map_both ind_element (frozen_term bound) (term_at own) own_term q.head);
   }
 
@@ -90,7 +90,7 @@ module _ (bound : ℕ) where
 
   pub frozen_plain : (q : Cq) (f : Fact) → Contains (frozen bound q) f → HasNoNull f
   frozen_plain q f there = let found : (a : Atom) × Contains q.body a × (frozen_atom bound a ≡ f) =
-      map_only (frozen_atom bound) q.body f there in
+      Contains-from_map (frozen_atom bound) q.body f there in
       subst HasNoNull found.2 (frozen_atom_plain found.0)
 
 -- the frozen variables go where an assignment has them
@@ -124,7 +124,7 @@ module _ (bound : ℕ) (t : Assignment) where
       → Holds (listed back run) f
   frozen_holds q run below match f there =
       let found : (a : Atom) × Contains q.body a × (frozen_atom bound a ≡ f) =
-      map_only (frozen_atom bound) q.body f there in
+      Contains-from_map (frozen_atom bound) q.body f there in
       subst (Holds (listed back run)) found.2
       (frozen_atom_holds run found.0 (All-contains (IsAtomBelow bound) q.body found.0 below found.1)
       (All-contains (λ a. Contains run (atom_at t a)) q.body found.0 match found.1))

@@ -18,7 +18,7 @@ use Rattle.dl_syntax.specs.declared.queries.Atom.{Atom}
 use Rattle.dl_syntax.specs.declared.queries.Atom.TheVariants as atom
 use Rattle.dl_syntax.specs.Facts.{In, role_fact, HasNoNull}
 use Rattle.dl_syntax.specs.Match.{Assignment, term_at, atom_at}
-use Rattle.models.proofs.MapLists.{map_alike}
+use Rattle.list_lemmas.proofs.Maps.{map_alike}
 use Rattle.dl_syntax.specs.Chase.{basic_fact}
 use Rattle.models.specs.Models.{Interpretation, directed, IsPair, IsIn, Holds, AtomHolds, term_in}
 

@@ -14,13 +14,6 @@ use Rattle.dl_syntax.specs.Facts.{In, Pair, role_fact, HasNoNull}
 use Rattle.dl_syntax.proofs.Nulls.{IsOld, HasOldElements}
 use Rattle.models.specs.Models.{Interpretation, directed, IsPair, IsIn, Holds, HoldsAt, element_at}
 
-pub no_null_old : (f : Fact) → HasNoNull f → HasOldElements 0 f
-no_null_old (fact.Concept c (Ind i)) none = tt
-no_null_old (fact.Concept c (Null n)) none = absurd none
-no_null_old (fact.Role p (Ind i) (Ind j)) none = (tt, tt)
-no_null_old (fact.Role p (Ind i) (Null n)) none = absurd none.1
-no_null_old (fact.Role p (Null n) y) none = absurd none.0
-
 module _ {E : Type 0} (I : Interpretation E) where
   -- a fact that holds has no null
   pub Holds-plain : (f : Fact) → Holds I f → HasNoNull f

@@ -39,14 +39,8 @@ use Rattle.dl_syntax.specs.declared.queries.Cq.{Cq}
 use Rattle.dl_syntax.specs.Facts.{role_fact}
 use Rattle.dl_syntax.specs.Chase.{Chase, Step, start, step, Makes, Meets, basic_fact}
 use Rattle.dl_syntax.specs.Match.{Assignment, Certain, term_at, atom_at}
-use Rattle.dl_syntax.proofs.Nulls.{
-  HasOldElements,
-  IsOld,
-  In-old,
-  each_of_one,
-  each_of_two,
-  nulls_are_old,
-}
+use Rattle.dl_syntax.proofs.Nulls.{HasOldElements, IsOld, In-old, each_of_one, each_of_two}
+use Rattle.dl_syntax.proofs.Nulls.{nulls_are_old, no_null_old}
 use Rattle.models.specs.Models.{
   Interpretation,
   IsIn,
@@ -62,9 +56,8 @@ use Rattle.models.specs.Models.{
   term_in,
 }
 use Rattle.models.specs.Laws.{RunsMapInto, CertainAnswersHoldIn, ModelsShowConsistency}
-use Rattle.models.proofs.MapLists.{map_both}
+use Rattle.list_lemmas.proofs.Maps.{map_both}
 use Rattle.models.proofs.Holding.{
-  no_null_old,
   Holds-plain,
   Holds-at,
   role_fact_holds,

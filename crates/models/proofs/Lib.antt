@@ -1,5 +1,4 @@
 -- The lemmas' files, lowest first.
-pub mod MapLists
 pub mod Holding
 pub mod IntoModels
 pub mod Having

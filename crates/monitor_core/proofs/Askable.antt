@@ -18,8 +18,8 @@ use Rattle.dl_syntax.specs.declared.queries.Cq.{Cq}
 use Rattle.dl_syntax.specs.Declaring.{IsDeclaredAtom}
 use Rattle.dl_syntax.specs.Queries.{IsQuery, IsDeclaredQuery}
 use Rattle.dl_syntax.specs.Ontology.{Declared}
-use Rattle.dl_syntax.proofs.AllByCons.{AllPairs-tail, AllPairs-head, Contains-none, Contains-first}
-use Rattle.dl_syntax.proofs.AllByCons.{Contains-later, Contains-cons_cases}
+use Rattle.list_lemmas.proofs.Elements.{AllPairs-tail, AllPairs-head, Contains-none, Contains-first}
+use Rattle.list_lemmas.proofs.Elements.{Contains-later, Contains-cons_cases}
 use Rattle.std.proofs.lemmas.List.Elements.{All-weaker}
 use Rattle.tcq_syntax.specs.declared.nodes.Node.{Node}
 use Rattle.tcq_syntax.specs.declared.nodes.Node.TheVariants as node

@@ -9,8 +9,8 @@ use Rattle.std.proofs.lemmas.Nat.{or_lt, pow_pos}
 use Rattle.std.proofs.lemmas.List.Elements.{All-contains, All-weaker, Contains-append_left}
 use Rattle.std.proofs.lemmas.List.Elements.{Contains-append_right}
 use Rattle.std.proofs.lemmas.List.Sums.{sum_by-append, sum_by-cons, sum_by-le}
-use Rattle.dl_syntax.proofs.AllByCons.{Contains-none, Contains-first, Contains-later}
-use Rattle.dl_syntax.proofs.AllByCons.{Contains-cons_cases, All-from_contains}
+use Rattle.list_lemmas.proofs.Elements.{Contains-none, Contains-first, Contains-later}
+use Rattle.list_lemmas.proofs.Elements.{Contains-cons_cases, All-from_contains}
 use Rattle.tcq_syntax.specs.Formula.{Formula, True, False, Leaf, And, Or, Next, WeakNext, Prev}
 use Rattle.tcq_syntax.specs.Formula.{WeakPrev, Until, Since, Eventually, Always, Once, Historically}
 use Rattle.tcq_syntax.specs.Formula.{formula_at}

@@ -13,7 +13,7 @@ use Rattle.dl_syntax.specs.declared.facts.Element.{Element}
 use Rattle.dl_syntax.specs.declared.facts.Element.TheVariants.{Ind as ind_element}
 use Rattle.dl_syntax.specs.Match.{Certain, term_at}
 use Rattle.std.proofs.lemmas.List.{length-map}
-use Rattle.dl_syntax.proofs.AllByCons.{All-from_contains}
+use Rattle.list_lemmas.proofs.Elements.{All-from_contains}
 use Rattle.progression.specs.Tables.{IsOverLeaf}
 use Rattle.dl_syntax.specs.Rows.{Relation}
 use Rattle.query_unify.specs.Reach.{go, replace}

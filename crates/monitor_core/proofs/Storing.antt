@@ -6,7 +6,7 @@ use Rattle.std.specs.List.{Contains}
 use Rattle.std.proofs.Math.Seq.{take-suc}
 use Rattle.std.proofs.lemmas.List.Elements.{Contains-append_left, Contains-push}
 use Rattle.std.proofs.lemmas.List.Elements.{Contains-push_cases}
-use Rattle.dl_syntax.proofs.AllByCons.{Contains-none}
+use Rattle.list_lemmas.proofs.Elements.{Contains-none}
 use Rattle.formula_store.specs.Interned.{interned_all, AreDistinct}
 use Rattle.formula_store.specs.Laws.{Generation}
 use Rattle.answer_tables.specs.Table.{Antichains, HasAntichain}

@@ -10,11 +10,11 @@ use Rattle.std.proofs.lemmas.Slice.Eq.{bytes_eq-Decides}
 use Rattle.text_scan.specs.declared.TokenKind.{TokenKind}
 use Rattle.text_scan.specs.declared.TokenKind.TheVariants as token
 use Rattle.text_scan.specs.Lexing.{Lexeme, lexed}
-use Rattle.text_scan.specs.Spelling.{IsSpelling, IsSpelled, IsName}
+use Rattle.dl_syntax.specs.Names.{IsName, IsReserved, IsDeclarable}
+use Rattle.text_scan.specs.Spelling.{IsSpelling, IsSpelled}
 use Rattle.text_scan.proofs.Spellings.{are_spelled}
 use Rattle.dl_syntax.specs.declared.names.Kind.{Kind}
 use Rattle.dl_syntax.specs.declared.names.Kind.TheVariants.{Concept, Role, Individual}
-use Rattle.dl_syntax.specs.Names.{IsReserved, IsDeclarable}
 use Rattle.ontology_reader.specs.Sayings.{Word, some, inv, name, word_of, BasicTerm, concept}
 use Rattle.ontology_reader.specs.Sayings.{existing, Saying, includes_roles, disjoint}
 use Rattle.ontology_reader.specs.Sayings.{disjoint_roles, has_no_form, role_first, basic_first}

@@ -1,5 +1,5 @@
 -- The bytes of words are read as these words.
-use Rattle.std.proofs.Common.{◌≡◌, ℕ, ◌+◌, Bool, true, false, List, [], ◌∷◌, ◌++◌, length, drop}
+use Rattle.std.proofs.Common.{◌≡◌, ℕ, ◌+◌, true, false, List, [], ◌∷◌, ◌++◌, length, drop}
 use Rattle.std.proofs.Common.{Option, Some, refl, ap, ◌∙◌, arith, inl, inr}
 use Rattle.std.specs.Prelude.{IsTrue, nat_le, codes}
 use Rattle.std.specs.List.{All, prefix_len}
@@ -7,11 +7,10 @@ use Rattle.std.specs.Option.{option_map, option_map_or}
 use Rattle.std.specs.Str.{bytes_eq}
 use Rattle.std.proofs.Math.Seq.{take-append_seam, drop-append_seam}
 use Rattle.std.proofs.lemmas.List.Elements.{All-nil, All-cons, All-head, All-tail}
-use Rattle.std.proofs.lemmas.Slice.Eq.{bytes_eq-Decides}
-use Rattle.text_scan.specs.Bytes.{is_letter, is_name_byte}
+use Rattle.list_lemmas.proofs.Positions.{bytes_eq-other}
+use Rattle.dl_syntax.specs.Names.{is_letter, is_name_byte, IsName}
 use Rattle.text_scan.specs.declared.TokenKind.TheVariants.{Name}
 use Rattle.text_scan.specs.Lexing.{Lexeme, Lexed, lexed, with_first}
-use Rattle.text_scan.specs.Spelling.{IsName}
 use Rattle.text_scan.proofs.Lexing.{after_gap, after_word, at_end}
 use Rattle.ontology_reader.specs.Sayings.{Word, some, inv, name, word_of, words_say, words_read}
 use Rattle.ontology_reader.specs.Sayings.{line_says, has_no_form}
@@ -57,20 +56,13 @@ first_name place (b ∷ t) rest spelled none =
 
 -- ---- words
 
-differ : (a b : List ℕ) → (a ≡ b → ⊥) → bytes_eq a b ≡ false
-differ a b apart = go (bytes_eq a b) refl
-  where
-    go : (same : Bool) → bytes_eq a b ≡ same → bytes_eq a b ≡ false
-    go true is = absurd (apart ((bytes_eq-Decides a b).0 is))
-    go false is = is
-
 word_is : (w : Word) → IsWritable w → word_of (word_text w) ≡ w
 word_is some written = refl
 word_is inv written = refl
 word_is (name text) written =
-    let not_some : bytes_eq text (codes "some") ≡ false = differ text (codes "some")
+    let not_some : bytes_eq text (codes "some") ≡ false = bytes_eq-other text (codes "some")
     (λ e. written.1 (inl e)) in
-    let not_inv : bytes_eq text (codes "inv") ≡ false = differ text (codes "inv")
+    let not_inv : bytes_eq text (codes "inv") ≡ false = bytes_eq-other text (codes "inv")
     (λ e. written.1 (inr e)) in
     rw (not_some, not_inv) refl
 

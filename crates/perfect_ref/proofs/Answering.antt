@@ -26,8 +26,8 @@ use Rattle.dl_syntax.specs.Chase.{Run, Chase, start, step, Makes, basic_fact}
 use Rattle.dl_syntax.specs.Chase as chase
 use Rattle.dl_syntax.specs.Match.{Certain, Assignment, atom_at}
 use Rattle.dl_syntax.specs.Encode.{encode, hidden, hidden_inverse, IsUnqualified, IsReached}
-use Rattle.dl_syntax.proofs.AllByCons.{Contains-none, Contains-single, Contains-cons_cases}
-use Rattle.dl_syntax.proofs.AllByCons.{All-from_contains}
+use Rattle.list_lemmas.proofs.Elements.{Contains-none, Contains-single, Contains-cons_cases}
+use Rattle.list_lemmas.proofs.Elements.{All-from_contains}
 use Rattle.dl_syntax.proofs.EncodingShape.{encoding_is_plain}
 use Rattle.dl_syntax.proofs.EncodingLaws.{encoding_keeps_answers, encoding_keeps_facts}
 use Rattle.dl_syntax.proofs.SaturationLaws.{saturation_is_declared}

@@ -14,9 +14,9 @@ use Rattle.dl_syntax.specs.declared.queries.Cq.{Cq}
 use Rattle.dl_syntax.specs.contracts.queries.CqPartialEq.TheImpl as cq
 use Rattle.dl_syntax.specs.Exact.{IsExact}
 use Rattle.dl_syntax.proofs.Exactness.{queries_exact}
-use Rattle.dl_syntax.proofs.AllByCons.{Contains-none, Contains-first, Contains-later}
-use Rattle.dl_syntax.proofs.AllByCons.{Contains-cons_cases, AllPairs-push, AllPairs-front}
-use Rattle.dl_syntax.proofs.AllByCons.{AllPairs-across}
+use Rattle.list_lemmas.proofs.Elements.{Contains-none, Contains-first, Contains-later}
+use Rattle.list_lemmas.proofs.Elements.{Contains-cons_cases, AllPairs-push, AllPairs-front}
+use Rattle.list_lemmas.proofs.Elements.{AllPairs-across}
 use Rattle.perfect_ref.specs.Plain.{IsPlain}
 use Rattle.perfect_ref.specs.Found.{Gains, Absorbs, Filters, none, keep, leave, Somewhere}
 use Rattle.perfect_ref.specs.Found.{IsNullReplacement, IsMadeAt}

@@ -1,64 +1,17 @@
 -- Laws of how many queries several ones reach in all.
 use Rattle.std.proofs.Common.{◌≡◌, ℕ, ◌+◌, ◌-◌, ◌<◌, ◌≤◌, List, [], ◌∷◌, ◌++◌, length, refl, sym}
-use Rattle.std.proofs.Common.{◌∙◌, ap, subst, arith, inl, inr, length-append}
+use Rattle.std.proofs.Common.{subst, arith}
 use Rattle.std.specs.Prelude.{◌≢◌}
-use Rattle.std.specs.List.{AllPairs, AllZip, Contains}
+use Rattle.std.specs.List.{AllZip, Contains}
 use Rattle.std.proofs.lemmas.List.Sums.{sum_by-cons, sum_by-append}
-use Rattle.std.proofs.lemmas.List.Elements.{All-nil, All-contains, Contains-append_left}
-use Rattle.std.proofs.lemmas.List.Elements.{Contains-append_right, Contains-append_cases}
+use Rattle.std.proofs.lemmas.List.Elements.{All-nil, All-contains}
 use Rattle.dl_syntax.specs.declared.queries.Cq.{Cq}
-use Rattle.dl_syntax.proofs.AllByCons.{Contains-none, Contains-first, Contains-later}
-use Rattle.dl_syntax.proofs.AllByCons.{Contains-cons_cases, AllPairs-nil, AllPairs-tail}
-use Rattle.dl_syntax.proofs.AllByCons.{AllPairs-head}
+use Rattle.list_lemmas.proofs.Distinct.{parts_around, distinct_is_no_longer}
+use Rattle.list_lemmas.proofs.Elements.{AllPairs-nil}
+use Rattle.list_lemmas.proofs.Zipped.{AllZip-joined}
 use Rattle.perfect_ref.specs.Plain.{Encoded, Reachable, HoldsOf, HoldsOfMore}
 use Rattle.perfect_ref.specs.Counting.{length_in_all, AreAllReached, AreReached, ReachAll}
 use Rattle.perfect_ref.specs.Counting.{ReachMore}
-
-split : {X : Type 0} (xs : List X) (x : X) → Contains xs x
-    → (front : List X) × (back : List X) × (xs ≡ front ++ x ∷ back)
-split {X = X} [] x there = absurd (Contains-none x there)
-split {X = X} (y ∷ xs) x there =
-    elim (Contains-cons_cases y xs x there) [
-      | inl same ↦ ([], xs, ap (λ z. z ∷ xs) same)
-      | inr later ↦ (let found : (front : List X) × (back : List X) × (xs ≡ front ++ x ∷ back) =
-          split xs x later in (y ∷ found.0, found.1, ap (λ zs. y ∷ zs) found.2))
-    ]
-
--- different elements that another list contains are no more than that has
-pub fewer : {X : Type 0} (xs ys : List X) → AllPairs (λ p q. p ≢ q) xs
-    → ((q : X) → Contains xs q → Contains ys q) → length xs ≤ length ys
-fewer {X = X} [] ys distinct inside = omega arith
-fewer {X = X} (x ∷ xs) ys distinct inside =
-    let parts : (front : List X) × (back : List X) × (ys ≡ front ++ x ∷ back) =
-    split ys x (inside x (Contains-first x xs)) in
-    let less : length xs ≤ length (parts.0 ++ parts.1) =
-    fewer xs (parts.0 ++ parts.1) (AllPairs-tail (λ p q. p ≢ q) x xs distinct) (λ q there.
-    others x xs parts.0 parts.1 q (AllPairs-head (λ p r. p ≢ r) x xs q distinct there)
-    (subst (λ (zs : List X). Contains zs q) parts.2
-    (inside q (Contains-later x xs q there)))) in
-    let whole : length ys ≡ length parts.0 + length (x ∷ parts.1) =
-    ap length parts.2 ∙ length-append parts.0 (x ∷ parts.1) in
-    let rest : length (parts.0 ++ parts.1) ≡ length parts.0 + length parts.1 =
-    length-append parts.0 parts.1 in
-    omega arith
-  where
-    others : (x : X) (xs front back : List X) (q : X) → x ≢ q → Contains (front ++ x ∷ back) q
-        → Contains (front ++ back) q
-    others x xs front back q different there =
-        elim (Contains-append_cases front (x ∷ back) q there) [
-          | inl early ↦ Contains-append_left front back q early
-          | inr late ↦ elim (Contains-cons_cases x back q late) [
-            | inl same ↦ absurd (different same)
-            | inr later ↦ Contains-append_right front back q later
-          ]
-        ]
-
-joined : {A B : Type 0} (R : A → B → Type 0) (xs xs' : List A) (ys ys' : List B) → AllZip R xs ys
-    → AllZip R xs' ys' → AllZip R (xs ++ xs') (ys ++ ys')
-joined R [] xs' [] ys' first later = later
-joined R [] xs' (y ∷ ys) ys' first later = absurd first
-joined R (x ∷ xs) xs' [] ys' first later = absurd first
-joined R (x ∷ xs) xs' (y ∷ ys) ys' first later = (first.0, joined R xs xs' ys ys' first.1 later)
 
 module _ (e : Encoded) where
   pub all_none : ReachAll e [] 0
@@ -74,7 +27,7 @@ module _ (e : Encoded) where
       let right : length_in_all later.lists ≡ m = later.total in
       record {
         lists = first.lists ++ later.lists;
-        each = joined (AreAllReached e) a b first.lists later.lists first.each later.each;
+        each = AllZip-joined (AreAllReached e) a b first.lists later.lists first.each later.each;
         total = omega arith;
       }
 
@@ -119,7 +72,7 @@ module _ (e : Encoded) where
       let beyond : room < length_in_all more.lists = more.more in
       record {
         lists = more.lists ++ nothing b;
-        each = joined (AreReached e) a b more.lists (nothing b) more.each (some_nothing b);
+        each = AllZip-joined (AreReached e) a b more.lists (nothing b) more.each (some_nothing b);
         more = omega arith;
       }
 
@@ -133,7 +86,7 @@ module _ (e : Encoded) where
       let beyond : room - n < length_in_all more.lists = more.more in
       record {
         lists = first.lists ++ more.lists;
-        each = joined (AreReached e) a b first.lists more.lists
+        each = AllZip-joined (AreReached e) a b first.lists more.lists
             (some_of_all a first.lists first.each) more.each;
         more = omega arith;
       }
@@ -162,7 +115,7 @@ module _ (e : Encoded) where
   at_most (q ∷ qs) (y ∷ ys) [] is has = absurd has
   at_most (q ∷ qs) (y ∷ ys) (x ∷ xs) (is, later) (has, others) =
       let first : length x ≤ length y =
-      fewer x y has.distinct (λ r there.
+      distinct_is_no_longer x y has.distinct (λ r there.
       is.complete r (All-contains (Reachable e q) x r has.sound there)) in
       let rest : length_in_all xs ≤ length_in_all ys = at_most qs ys xs later others in
       let left : length_in_all (x ∷ xs) ≡ length x + length_in_all xs = sum_by-cons length x xs in
@@ -191,8 +144,8 @@ module _ (e : Encoded) where
       let beyond : room < length_in_all one.lists = one.more in
       record {
         lists = nothing front ++ one.lists;
-        each = joined (AreReached e) front (q ∷ rest) (nothing front) one.lists (some_nothing front)
-            one.each;
+        each = AllZip-joined (AreReached e) front (q ∷ rest) (nothing front) one.lists
+            (some_nothing front) one.each;
         more = omega arith;
       }
 
@@ -200,6 +153,6 @@ module _ (e : Encoded) where
       → HoldsOfMore (Reachable e q) room → ReachMore e qs room
   more_contained qs q room there more =
       let parts : (front : List Cq) × (back : List Cq) × (qs ≡ front ++ q ∷ back) =
-      split qs q there in
+      parts_around qs q there in
       subst (λ (zs : List Cq). ReachMore e zs room) (sym parts.2)
       (more_among parts.0 parts.1 q room more)

@@ -16,7 +16,7 @@ use Rattle.dl_syntax.specs.declared.queries.Term.TheVariants.{Var}
 use Rattle.dl_syntax.specs.declared.queries.Atom.{Atom}
 use Rattle.dl_syntax.specs.declared.queries.Atom.TheVariants as atom
 use Rattle.dl_syntax.specs.declared.queries.Cq.{Cq}
-use Rattle.dl_syntax.proofs.AllByCons.{Contains-none, All-from_contains}
+use Rattle.list_lemmas.proofs.Elements.{Contains-none, All-from_contains}
 use Rattle.dl_syntax.specs.Encode.{IsUnqualified}
 use Rattle.query_unify.specs.Table.{Becomes}
 use Rattle.dl_syntax.specs.Saturation.{MakesNulls}

@@ -9,7 +9,7 @@ use Rattle.dl_syntax.specs.declared.ontology.Inclusion.{Inclusion}
 use Rattle.dl_syntax.specs.declared.queries.Atom.{Atom}
 use Rattle.dl_syntax.specs.declared.queries.Atom.TheVariants as atom
 use Rattle.dl_syntax.specs.declared.queries.Cq.{Cq}
-use Rattle.dl_syntax.proofs.AllByCons.{Contains-first, Contains-single, All-from_contains}
+use Rattle.list_lemmas.proofs.Elements.{Contains-first, Contains-single, All-from_contains}
 use Rattle.query_unify.specs.Substitution.{Substitution, applied_atom, applied_query}
 use Rattle.query_unify.specs.Normal.{same_atom, numbering, normalise}
 use Rattle.query_unify.specs.Reach.{Step, Steps, stay, go, Reach}

@@ -7,7 +7,7 @@ use Rattle.std.proofs.lemmas.Bool.{cases_lt}
 use Rattle.std.proofs.Math.Seq.{drop-nil}
 use Rattle.std.proofs.lemmas.List.Elements.{All-contains, All-push, All-weaker}
 use Rattle.std.proofs.lemmas.List.Elements.{Contains-append_left, Contains-push}
-use Rattle.dl_syntax.proofs.AllByCons.{AllPairs-push}
+use Rattle.list_lemmas.proofs.Elements.{AllPairs-push}
 use Rattle.tcq_syntax.specs.declared.nodes.Node.{Node}
 use Rattle.tcq_syntax.specs.Kept.{IsKept}
 use Rattle.answer_tables.specs.Table.{Antichains}

@@ -17,8 +17,8 @@ use Rattle.dl_syntax.specs.declared.queries.Cq.{Cq}
 use Rattle.dl_syntax.specs.declared.queries.Term.{Term}
 use Rattle.dl_syntax.specs.declared.queries.Term.TheVariants.{Var, Ind}
 use Rattle.dl_syntax.specs.Rows.{Relation}
-use Rattle.dl_syntax.proofs.AllByCons.{Contains-none, Contains-first, Contains-later}
-use Rattle.dl_syntax.proofs.AllByCons.{Contains-cons_cases}
+use Rattle.list_lemmas.proofs.Elements.{Contains-none, Contains-first, Contains-later}
+use Rattle.list_lemmas.proofs.Elements.{Contains-cons_cases}
 use Rattle.tcq_syntax.specs.declared.nodes.Node.{Node}
 use Rattle.tcq_syntax.specs.declared.nodes.Node.TheVariants as node
 use Rattle.tcq_syntax.specs.Tcq.{IsLeaf}

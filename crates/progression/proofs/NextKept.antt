@@ -15,8 +15,8 @@ use Rattle.dl_syntax.specs.declared.facts.Fact.{Fact}
 use Rattle.dl_syntax.specs.declared.ontology.Inclusion.{Inclusion}
 use Rattle.dl_syntax.specs.Match.{Certain}
 use Rattle.dl_syntax.specs.Rows.{IsRising, Relation}
-use Rattle.dl_syntax.proofs.AllByCons.{All-from_contains, Contains-none, Contains-first}
-use Rattle.dl_syntax.proofs.AllByCons.{Contains-later, Contains-cons_cases}
+use Rattle.list_lemmas.proofs.Elements.{All-from_contains, Contains-none, Contains-first}
+use Rattle.list_lemmas.proofs.Elements.{Contains-later, Contains-cons_cases}
 use Rattle.tcq_syntax.specs.declared.nodes.Node.{Node}
 use Rattle.tcq_syntax.specs.declared.nodes.Node.TheVariants as node
 use Rattle.tcq_syntax.specs.Tcq.{Tcq, IsTcq}

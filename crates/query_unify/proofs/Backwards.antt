@@ -12,7 +12,7 @@ use Rattle.dl_syntax.specs.declared.queries.Cq.{Cq}
 use Rattle.dl_syntax.specs.Facts.{In, role_fact}
 use Rattle.dl_syntax.specs.Chase.{Makes}
 use Rattle.dl_syntax.specs.Match.{Match, Assignment, term_at, atom_at}
-use Rattle.dl_syntax.proofs.AllByCons.{Contains-first}
+use Rattle.list_lemmas.proofs.Elements.{Contains-first}
 use Rattle.query_unify.specs.Substitution.{applied_query}
 use Rattle.query_unify.specs.Table.{Becomes}
 use Rattle.query_unify.specs.Laws.{Gives}

@@ -16,6 +16,8 @@ use Rattle.std.proofs.lemmas.List.Elements.{All-nil, All-cons, All-head, All-tai
 use Rattle.std.proofs.lemmas.List.Elements.{All-weaker, All-contains, All-contains_itself}
 use Rattle.std.proofs.lemmas.List.Elements.{Contains-append_left, Contains-append_right}
 use Rattle.std.proofs.lemmas.List.Elements.{Contains-append_cases}
+use Rattle.list_lemmas.proofs.Elements.{Contains-later, Contains-cons_cases}
+use Rattle.list_lemmas.proofs.Maps.{Contains-map}
 use Rattle.dl_syntax.specs.declared.ontology.Basic.{Basic}
 use Rattle.dl_syntax.specs.declared.ontology.Basic.TheVariants as basic
 use Rattle.dl_syntax.specs.declared.ontology.Inclusion.{Inclusion}
@@ -32,7 +34,7 @@ use Rattle.query_unify.specs.Normal.{numbering, normalise, same_atom}
 use Rattle.query_unify.specs.Table.{count_in_term, count_in_terms, basic_atom, Becomes}
 use Rattle.query_unify.specs.Reach.{Step, replace, reduce}
 use Rattle.query_unify.proofs.Places.{SplitsAt, splits_at}
-use Rattle.query_unify.proofs.NormalForm.{Contains-cases, All-first_places, same_atom-is}
+use Rattle.query_unify.proofs.NormalForm.{All-first_places, same_atom-is}
 use Rattle.query_unify.proofs.Repeats.{Contains-first_places, same_atom-itself, first_places-short}
 use Rattle.query_unify.proofs.Counts.{count-itself}
 use Rattle.query_unify.proofs.Renaming.{variables_of-append}
@@ -66,18 +68,6 @@ HasTerm-applied : (s : Substitution) (a : Atom) (x : Term) → HasTerm a x
 HasTerm-applied s (atom.Concept c y) x has = ap (applied s) has
 HasTerm-applied s (atom.Role p y z) x (inl first) = inl (ap (applied s) first)
 HasTerm-applied s (atom.Role p y z) x (inr second) = inr (ap (applied s) second)
-
-Contains-map : {X Y : Type 0} (f : X → Y) (xs : List X) (x : X) → Contains xs x
-    → Contains (map f xs) (f x)
-Contains-map f [] x (k, below, is) = absurd (omega arith)
-Contains-map f (y ∷ xs) x there =
-    at (Contains-cases y x xs there) (λ later. Contains-map f xs x later)
-  where
-    at : (y ≡ x) ⊎ Contains xs x → (Contains xs x → Contains (map f xs) (f x))
-        → Contains (f y ∷ map f xs) (f x)
-    at (inl same) further = (0, omega arith, ap f same)
-    at (inr later) further = let more : Contains (map f xs) (f x) = further later in
-        (suc more.0, omega (arith, more.1), more.2)
 
 stands-applied : (s : Substitution) (body : List Atom) (x : Term) → Stands body x
     → Stands (map (applied_atom s) body) (applied s x)
@@ -139,7 +129,7 @@ IsQuery-normalise q is =
 -- the term occurs as often as it is counted
 pub occurs : (v : ℕ) (terms : List Term) → Contains terms (Var v) → 1 ≤ count_in_terms v terms
 occurs v [] (k, below, is) = absurd (omega arith)
-occurs v (x ∷ terms) there = at (Contains-cases x (Var v) terms there) (λ later.
+occurs v (x ∷ terms) there = at (Contains-cons_cases x terms (Var v) there) (λ later.
     occurs v terms later)
   where
     at : (x ≡ Var v) ⊎ Contains terms (Var v)
@@ -212,7 +202,7 @@ stands_replaced front old a rest x kept (b, there, has) =
 
     by : Contains front b ⊎ Contains (old ∷ rest) b → Stands (front ++ a ∷ rest) x
     by (inl first) = (b, Contains-append_left front (a ∷ rest) b first, has)
-    by (inr last) = later (Contains-cases old b rest last)
+    by (inr last) = later (Contains-cons_cases old rest b last)
 
 -- a query stays one where an atom is replaced
 pub IsQuery-replaced : (i : Inclusion) (q : Cq) (place new : ℕ) (old a : Atom)
@@ -271,14 +261,11 @@ distinct_apart (v ∷ vs) =
     others (w ∷ ws) = kept_one w (v == w) refl (filter (λ u. cond (v == u) false true) ws)
         (others ws)
 
-Contains-later : {X : Type 0} (y : X) (xs : List X) (x : X) → Contains xs x → Contains (y ∷ xs) x
-Contains-later y xs x (k, below, is) = (suc k, omega arith, is)
-
 Contains-variables : (terms : List Term) (v : ℕ) → Contains terms (Var v)
     → Contains (variables_of terms) v
 Contains-variables [] v (k, below, is) = absurd (omega arith)
 Contains-variables (Var w ∷ terms) v there =
-    at (Contains-cases (Var w) (Var v) terms there) (λ later. Contains-variables terms v later)
+    at (Contains-cons_cases (Var w) terms (Var v) there) (λ later. Contains-variables terms v later)
   where
     at : (Var w ≡ Var v) ⊎ Contains terms (Var v)
         → (Contains terms (Var v) → Contains (variables_of terms) v)
@@ -286,7 +273,7 @@ Contains-variables (Var w ∷ terms) v there =
     at (inl same) further = (0, omega arith, cc)
     at (inr later) further = Contains-later w (variables_of terms) v (further later)
 Contains-variables (Ind i ∷ terms) v there =
-    at (Contains-cases (Ind i) (Var v) terms there) (λ later. Contains-variables terms v later)
+    at (Contains-cons_cases (Ind i) terms (Var v) there) (λ later. Contains-variables terms v later)
   where
     at : (Ind i ≡ Var v) ⊎ Contains terms (Var v)
         → (Contains terms (Var v) → Contains (variables_of terms) v)
@@ -310,7 +297,7 @@ stands_in_terms : (atoms : List Atom) (a : Atom) (x : Term) → Contains atoms a
     → Contains (terms_of atoms) x
 stands_in_terms [] a x (k, below, is) has = absurd (omega arith)
 stands_in_terms (b ∷ atoms) a x there has =
-    at (Contains-cases b a atoms there) (λ later. stands_in_terms atoms a x later has)
+    at (Contains-cons_cases b atoms a there) (λ later. stands_in_terms atoms a x later has)
   where
     at : (b ≡ a) ⊎ Contains atoms a → (Contains atoms a → Contains (terms_of atoms) x)
         → Contains (terms_of (b ∷ atoms)) x

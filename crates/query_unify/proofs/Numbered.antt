@@ -17,7 +17,7 @@ use Rattle.query_unify.specs.Substitution.{applied, applied_atom}
 use Rattle.query_unify.specs.Normal.{first_places, distinct, numbers, place_in, places}
 use Rattle.query_unify.specs.Normal.{variables_of, terms_of, variables, numbering, normalise}
 use Rattle.query_unify.specs.Normal.{same_atom}
-use Rattle.query_unify.proofs.Matches.{All-front, All-back}
+use Rattle.list_lemmas.proofs.Elements.{All-front, All-back}
 use Rattle.query_unify.proofs.NormalForm.{All-from_first_places}
 use Rattle.query_unify.proofs.Renaming.{variables_of-append}
 use Rattle.query_unify.proofs.FirstPlaces.{distinct-again, distinct-new, place_in-at}

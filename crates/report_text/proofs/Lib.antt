@@ -5,3 +5,4 @@ mod Verbatim
 mod ObjectTexts
 mod EventTexts
 mod Examples
+pub mod Arrangements

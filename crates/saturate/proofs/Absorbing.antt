@@ -8,8 +8,8 @@ use Rattle.std.proofs.lemmas.List.Elements.{Contains-push_cases}
 use Rattle.std.proofs.lemmas.Map.Views.{Contains-from_any}
 use Rattle.indexmap.specs.IndexSet.{insert_key}
 use Rattle.dl_syntax.specs.Exact.{IsExact}
-use Rattle.dl_syntax.proofs.AllByCons.{Contains-none, Contains-first, Contains-later}
-use Rattle.dl_syntax.proofs.AllByCons.{Contains-cons_cases}
+use Rattle.list_lemmas.proofs.Elements.{Contains-none, Contains-first, Contains-later}
+use Rattle.list_lemmas.proofs.Elements.{Contains-cons_cases}
 use Rattle.saturate.specs.Lists.{Absorbs}
 
 -- what an insertion leaves in a set

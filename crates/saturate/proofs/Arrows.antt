@@ -15,8 +15,8 @@ use Rattle.dl_syntax.specs.declared.ontology.Basic.TheVariants as basic
 use Rattle.dl_syntax.specs.declared.ontology.Inclusion.{Inclusion}
 use Rattle.dl_syntax.specs.declared.ontology.Inclusion.TheVariants as inclusion
 use Rattle.dl_syntax.specs.Exact.{IsExact}
-use Rattle.dl_syntax.proofs.AllByCons.{Contains-none, Contains-first, Contains-later}
-use Rattle.dl_syntax.proofs.AllByCons.{Contains-cons_cases, Contains-single}
+use Rattle.list_lemmas.proofs.Elements.{Contains-none, Contains-first, Contains-later}
+use Rattle.list_lemmas.proofs.Elements.{Contains-cons_cases, Contains-single}
 use Rattle.worklist.specs.Reach.{Walk, Reaches, ReachesMore}
 use Rattle.saturate.specs.declared.graph.Arrow.{Arrow}
 use Rattle.saturate.specs.declared.graph.Scope.{Scope}

@@ -5,7 +5,7 @@ use Rattle.std.specs.List.{Contains}
 use Rattle.std.proofs.Common.{sym, ◌∙◌, ap, subst, inl, inr}
 use Rattle.std.proofs.lemmas.List.Elements.{Contains-push, Contains-append_right}
 use Rattle.std.proofs.lemmas.List.Elements.{Contains-append_cases}
-use Rattle.dl_syntax.proofs.AllByCons.{Contains-first, Contains-cons_cases, Contains-single}
+use Rattle.list_lemmas.proofs.Elements.{Contains-first, Contains-cons_cases, Contains-single}
 use Rattle.dl_syntax.proofs.RunLaws.{Run-step}
 use Rattle.dl_syntax.specs.declared.facts.Element.{Element}
 use Rattle.dl_syntax.specs.declared.facts.Element.TheVariants as element

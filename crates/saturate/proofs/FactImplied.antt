@@ -18,8 +18,8 @@ use Rattle.dl_syntax.specs.declared.ontology.Role.{Role}
 use Rattle.dl_syntax.specs.declared.ontology.Basic.TheVariants as basic
 use Rattle.dl_syntax.specs.declared.ontology.Inclusion.{Inclusion}
 use Rattle.dl_syntax.specs.Facts.{role_fact, HasNoNull}
-use Rattle.dl_syntax.proofs.AllByCons.{All-from_contains, Contains-none, Contains-first}
-use Rattle.dl_syntax.proofs.AllByCons.{Contains-later, Contains-cons_cases}
+use Rattle.list_lemmas.proofs.Elements.{All-from_contains, Contains-none, Contains-first}
+use Rattle.list_lemmas.proofs.Elements.{Contains-later, Contains-cons_cases}
 use Rattle.dl_syntax.specs.Saturation.{IsSaturation}
 use Rattle.saturate.specs.declared.graph.Scope.{Scope}
 use Rattle.saturate.specs.declared.graph.Scope.TheVariants as scope

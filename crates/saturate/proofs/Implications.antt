@@ -3,7 +3,7 @@ use Rattle.std.specs.Prelude.{◌≡◌, ◌↔◌, List, [], Bool, true, false,
 use Rattle.std.specs.List.{All, Contains}
 use Rattle.std.proofs.Common.{sym, ap, subst, inl, inr, arith}
 use Rattle.std.proofs.lemmas.List.Elements.{All-contains}
-use Rattle.dl_syntax.proofs.AllByCons.{Contains-none, Contains-single}
+use Rattle.list_lemmas.proofs.Elements.{Contains-none, Contains-single}
 use Rattle.dl_syntax.specs.declared.facts.Element.{Element}
 use Rattle.dl_syntax.specs.declared.names.RoleId.{RoleId}
 use Rattle.dl_syntax.specs.declared.names.ConceptId.{ConceptId}

@@ -14,7 +14,7 @@ use Rattle.dl_syntax.specs.declared.ontology.Basic.TheVariants as basic
 use Rattle.dl_syntax.specs.declared.ontology.Inclusion.{Inclusion}
 use Rattle.dl_syntax.specs.declared.ontology.Inclusion.TheVariants as inclusion
 use Rattle.dl_syntax.specs.Declaring.{IsDeclaredBasic, IsDeclaredInclusion}
-use Rattle.dl_syntax.proofs.AllByCons.{Contains-none, Contains-single}
+use Rattle.list_lemmas.proofs.Elements.{Contains-none, Contains-single}
 use Rattle.worklist.specs.Reach.{Reaches, IsClosure}
 use Rattle.saturate.specs.declared.graph.Arrow.{Arrow}
 use Rattle.saturate.specs.declared.graph.Scope.{Scope}

@@ -9,7 +9,7 @@ use Rattle.std.proofs.lemmas.List.{get_or_push, length-map, map-append}
 use Rattle.std.proofs.lemmas.List.Elements.{All-nil, All-cons}
 use Rattle.dl_syntax.specs.declared.names.IndId.{IndId}
 use Rattle.dl_syntax.specs.declared.facts.Fact.{Fact}
-use Rattle.dl_syntax.proofs.AllByCons.{Contains-none, Contains-first}
+use Rattle.list_lemmas.proofs.Elements.{Contains-none, Contains-first}
 use Rattle.tcq_syntax.specs.Tcq.{Tcq}
 use Rattle.tcq_syntax.specs.Formula.{formula_at}
 use Rattle.tcq_syntax.specs.Histories.{History, with_snapshot}

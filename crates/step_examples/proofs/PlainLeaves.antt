@@ -16,8 +16,8 @@ use Rattle.dl_syntax.specs.Match.{Certain}
 use Rattle.dl_syntax.specs.Laws.{instances}
 use Rattle.progression.specs.Kept.{AreCertain}
 use Rattle.dl_syntax.proofs.RunLaws.{instances_are_facts}
-use Rattle.dl_syntax.proofs.AllByCons.{Contains-none, Contains-first, Contains-later}
-use Rattle.dl_syntax.proofs.AllByCons.{Contains-cons_cases, Contains-single}
+use Rattle.list_lemmas.proofs.Elements.{Contains-none, Contains-first, Contains-later}
+use Rattle.list_lemmas.proofs.Elements.{Contains-cons_cases, Contains-single}
 use Rattle.step_examples.specs.Plain.{Answers, AsksForMembers, Told, is_of_first, rows_if}
 use Rattle.step_examples.specs.Plain.{snapshot_of, the_row}
 

@@ -15,8 +15,8 @@ use Rattle.dl_syntax.specs.declared.queries.Atom.{Atom}
 use Rattle.dl_syntax.specs.declared.queries.Atom.TheVariants as atom
 use Rattle.dl_syntax.specs.Ontology.{Declared}
 use Rattle.dl_syntax.specs.Queries.{HasTerm, IsBound}
-use Rattle.dl_syntax.proofs.AllByCons.{AllPairs-nil, AllPairs-push, All-from_contains}
-use Rattle.dl_syntax.proofs.AllByCons.{Contains-none}
+use Rattle.list_lemmas.proofs.Elements.{AllPairs-nil, AllPairs-push, All-from_contains}
+use Rattle.list_lemmas.proofs.Elements.{Contains-none}
 use Rattle.tcq_syntax.specs.Tcq.{IsLeaf}
 use Rattle.tcq_grammar.specs.Grammar as g
 use Rattle.tcq_reader.specs.Leaves.{Draft, blank, with_atoms, term_has, atom_has, occurs}

@@ -6,11 +6,10 @@ use Rattle.text_scan.specs.declared.TokenKind.{TokenKind}
 use Rattle.text_scan.specs.declared.TokenKind.TheVariants as kind
 use Rattle.text_scan.specs.Lexing.{Lexeme, lexed}
 use Rattle.text_scan.specs.Spelling.{IsSpelling, IsSpelled}
-use Rattle.text_scan.specs.Spelling.{IsName as IsNameToken}
 use Rattle.text_scan.proofs.Spellings.{are_spelled}
 use Rattle.dl_syntax.specs.Names.{IsName}
 use Rattle.dl_syntax.specs.Ontology.{Declared}
-use Rattle.dl_syntax.proofs.AllByCons.{All-front, All-back}
+use Rattle.list_lemmas.proofs.Elements.{All-front, All-back}
 use Rattle.tcq_syntax.specs.Tcq.{Tcq}
 use Rattle.tcq_grammar.specs.declared.words.Keyword.TheVariants as k
 use Rattle.tcq_grammar.specs.Words.{word}
@@ -27,13 +26,9 @@ abbrev HasName : Symbol → Type 0
 HasName (s.Name text) = IsName text
 HasName _ = Unit {0}
 
-same_name : (text : List ℕ) → IsNameToken text → IsName text
-same_name [] is = is
-same_name (first ∷ rest) is = is
-
 symbol_named : (token : TokenKind) (text : List ℕ) → IsSpelling token text
     → HasName (symbol_of token text)
-symbol_named kind.Name text is = same_name text is
+symbol_named kind.Name text is = is
 symbol_named kind.Var text is = tt
 symbol_named kind.Open text is = tt
 symbol_named kind.Close text is = tt

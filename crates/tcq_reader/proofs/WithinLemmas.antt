@@ -14,7 +14,7 @@ use Rattle.dl_syntax.specs.declared.queries.Atom.{Atom}
 use Rattle.dl_syntax.specs.declared.queries.Cq.{Cq}
 use Rattle.dl_syntax.specs.Ontology.{Declared, names_of, number_of, is_declared}
 use Rattle.dl_syntax.specs.Declaring.{IsDeclaredAtom}
-use Rattle.dl_syntax.proofs.AllByCons.{Contains-first, All-back}
+use Rattle.list_lemmas.proofs.Elements.{Contains-first, All-back}
 use Rattle.tcq_syntax.specs.declared.nodes.Node.{Node}
 use Rattle.tcq_syntax.specs.declared.nodes.Node.TheVariants as node
 use Rattle.tcq_syntax.specs.Tcq.{Tcq}

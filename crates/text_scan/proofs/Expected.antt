@@ -5,7 +5,8 @@ use Rattle.std.proofs.Common.{◌∙◌, arith, lit≤, add-one, drop-cons, leng
 use Rattle.std.specs.Prelude.{◌||◌, Option}
 use Rattle.std.specs.List.{prefix_len}
 use Rattle.std.proofs.lemmas.Bool.{cond_both, cond-true}
-use Rattle.text_scan.specs.Bytes.{is_blank, is_letter, is_name_byte}
+use Rattle.dl_syntax.specs.Names.{is_letter, is_name_byte}
+use Rattle.text_scan.specs.Bytes.{is_blank}
 use Rattle.text_scan.specs.declared.Piece.{Piece}
 use Rattle.text_scan.specs.declared.Piece.TheVariants.{Gap, Word, Fault}
 use Rattle.text_scan.specs.declared.Token.{Token}

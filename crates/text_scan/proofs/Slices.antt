@@ -4,7 +4,8 @@ use Rattle.std.proofs.Common.{[], ◌∷◌, length, take, drop, refl, ap, ◌�
 use Rattle.std.specs.List.{prefix_len}
 use Rattle.std.proofs.lemmas.List.{length-take-le}
 use Rattle.std.proofs.lemmas.List.Sums.{prefix_len-le-length}
-use Rattle.text_scan.specs.Bytes.{is_blank, is_letter, is_name_byte, is_comment_byte}
+use Rattle.dl_syntax.specs.Names.{is_letter, is_name_byte}
+use Rattle.text_scan.specs.Bytes.{is_blank, is_comment_byte}
 use Rattle.text_scan.specs.declared.Piece.{Piece}
 use Rattle.text_scan.specs.declared.Piece.TheVariants.{Gap, Word, Fault}
 use Rattle.text_scan.specs.declared.TokenKind.{TokenKind}

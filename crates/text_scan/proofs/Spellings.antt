@@ -6,12 +6,13 @@ use Rattle.std.specs.List.{All, prefix_len}
 use Rattle.std.proofs.lemmas.Bool.{cond_both}
 use Rattle.std.proofs.lemmas.List.Elements.{All-nil, All-cons}
 use Rattle.std.proofs.lemmas.List.Folds.{length-prefix_len}
-use Rattle.text_scan.specs.Bytes.{is_blank, is_letter, is_name_byte}
+use Rattle.dl_syntax.specs.Names.{is_letter, is_name_byte, IsName}
+use Rattle.text_scan.specs.Bytes.{is_blank}
 use Rattle.text_scan.specs.declared.Piece.{Piece}
 use Rattle.text_scan.specs.declared.Piece.TheVariants.{Gap, Word, Fault}
 use Rattle.text_scan.specs.declared.TokenKind.TheVariants.{Name, Var}
 use Rattle.text_scan.specs.Lexing.{Lexed, lexed, piece, named, variable, mark, from_piece}
-use Rattle.text_scan.specs.Spelling.{IsName, IsSpelling, IsSpelled}
+use Rattle.text_scan.specs.Spelling.{IsSpelling, IsSpelled}
 
 abbrev IsPieceSpelled : List ℕ → Piece → Type 0
 IsPieceSpelled text (Gap len) = Unit {0}

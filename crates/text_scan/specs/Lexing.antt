@@ -12,7 +12,8 @@ use Rattle.text_scan.specs.declared.Next.{Next}
 use Rattle.text_scan.specs.declared.Next.TheVariants as next
 use Rattle.text_scan.specs.declared.ScanFault.{ScanFault}
 use Rattle.text_scan.specs.declared.ScanFault.TheVariants as faults
-use Rattle.text_scan.specs.Bytes.{is_blank, is_letter, is_name_byte, is_comment_byte}
+use Rattle.dl_syntax.specs.Names.{is_letter, is_name_byte}
+use Rattle.text_scan.specs.Bytes.{is_blank, is_comment_byte}
 
 -- a token without where it lies in memory
 pub record Lexeme : Type 0 where

@@ -1,17 +1,10 @@
 -- How the tokens of each kind are spelled.
-use Rattle.std.specs.Prelude.{◌≡◌, ℕ, ◌≤◌, List, [], ◌∷◌, length, IsTrue}
-use Rattle.std.specs.List.{All}
+use Rattle.std.specs.Prelude.{◌≡◌, ℕ, List, [], ◌∷◌}
+use Rattle.dl_syntax.specs.Names.{IsName}
 use Rattle.text_scan.specs.declared.TokenKind.{TokenKind}
 use Rattle.text_scan.specs.declared.TokenKind.TheVariants.{Name, Var, Open, Close, Square, Unsquare}
 use Rattle.text_scan.specs.declared.TokenKind.TheVariants.{Comma, Semi, Equal, Bar, Amp}
-use Rattle.text_scan.specs.Bytes.{is_letter, is_name_byte}
 use Rattle.text_scan.specs.Lexing.{Lexeme}
-
--- a letter or an underscore, then letters, digits, underscores and hyphens, 64 bytes at most
-abbrev pub IsName : List ℕ → Type 0
-IsName [] = ⊥
-IsName (first ∷ rest) = IsTrue (is_letter first) × All (λ b. IsTrue (is_name_byte b)) rest
-    × (length (first ∷ rest) ≤ 64)
 
 -- a question mark and a name
 abbrev pub IsVariable : List ℕ → Type 0

@@ -4,7 +4,8 @@ ghost use Rattle.std.specs.Prelude.{◌≡◌, ◌≤◌, ◌==◌, ◌||◌, le
 ghost use Rattle.text_scan.specs.Bytes.{is_blank};
 ghost use Rattle.text_scan.specs.Expecting.{IsMark, IsNextOf};
 
-use crate::{Next, Piece, Token, TokenKind, mark_of, named_at, next_token, starts_name, token_at};
+use crate::{Next, Piece, Token, TokenKind, mark_of, named_at, next_token, token_at};
+use dl_syntax::starts_name;
 
 /// The next token, if it is of this kind.
 #[inline]

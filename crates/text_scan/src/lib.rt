@@ -5,7 +5,7 @@ ghost use Rattle.std.specs.Prelude.{IfOk, Ok, Err, ◌≡◌, ◌+◌, ◌-◌, 
 ghost use Rattle.std.specs.Prelude.{length, drop, take, map};
 ghost use Rattle.std.specs.List.{prefix_len, All};
 ghost use Rattle.text_scan.specs.declared.ScanFault.TheVariants.{Memory};
-ghost use Rattle.text_scan.specs.Bytes.{is_letter, is_name_byte};
+ghost use Rattle.dl_syntax.specs.Names.{is_name_byte};
 ghost use Rattle.text_scan.specs.Lexing.{front_piece, named, variable, mark, LiesWithin, Scans};
 ghost use Rattle.text_scan.specs.Lexing.{AreSlices, IsNext, lexeme, lexed, behind};
 ghost use Rattle.text_scan.specs.Spelling.{IsSpelled};
@@ -13,6 +13,7 @@ ghost use Rattle.text_scan.specs.Spelling.{IsSpelled};
 mod expecting;
 mod lines;
 
+use dl_syntax::{continues_name, starts_name};
 pub use expecting::{next_mark, next_name};
 pub use lines::line_at;
 use lines::line_end;
@@ -76,20 +77,6 @@ enum Piece {
 
 /// The longest name or variable, without its mark.
 const NAME_LIMIT: usize = 64;
-
-#[inline]
-fn starts_name(byte: u8) -> bool
-    ensures { result ≡ is_letter byte }
-{
-    matches!(byte, b'a'..=b'z' | b'A'..=b'Z' | b'_')
-}
-
-#[inline]
-fn continues_name(byte: u8) -> bool
-    ensures { result ≡ is_name_byte byte }
-{
-    matches!(byte, b'a'..=b'z' | b'A'..=b'Z' | b'_' | b'0'..=b'9' | b'-')
-}
 
 /// Where the name that goes on at `from` ends.
 #[inline]

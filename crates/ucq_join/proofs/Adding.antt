@@ -5,7 +5,7 @@ use Rattle.std.specs.List.{AllByRecursion}
 use Rattle.std.proofs.Common.{sym, ◌∙◌, ap, subst, inl, inr, arith}
 use Rattle.std.proofs.lemmas.List.Elements.{Contains-append_left, Contains-append_right}
 use Rattle.std.proofs.lemmas.List.Elements.{Contains-append_cases}
-use Rattle.dl_syntax.proofs.AllByCons.{Contains-none, Contains-first, Contains-single}
+use Rattle.list_lemmas.proofs.Elements.{Contains-none, Contains-first, Contains-single}
 use Rattle.dl_syntax.specs.declared.names.IndId.{IndId}
 use Rattle.dl_syntax.specs.declared.facts.Element.{Element}
 use Rattle.dl_syntax.specs.declared.facts.Element.TheVariants as element
@@ -107,7 +107,7 @@ module _ (facts : List Fact) (head : List Term) (a : Atom) (rest : List Atom) (b
         adds_none x (IsAnswerAt facts head a rest bs f) (λ row k. r k.0 k.1 k.2)
 
 -- what is bound is covered
-bound_covered : (cs : List Binding) (rest : List Atom) (x : Term) → IsAssigned cs x
+pub bound_covered : (cs : List Binding) (rest : List Atom) (x : Term) → IsAssigned cs x
     → IsCovered cs rest x
 bound_covered cs [] x h = h
 bound_covered cs (a ∷ rest) x h = inr (bound_covered cs rest x h)

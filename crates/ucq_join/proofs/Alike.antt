@@ -6,7 +6,7 @@ use Rattle.dl_syntax.specs.declared.facts.Fact.{Fact}
 use Rattle.dl_syntax.specs.declared.queries.Atom.{Atom}
 use Rattle.dl_syntax.specs.declared.queries.Atom.TheVariants as atom
 use Rattle.dl_syntax.specs.Match.{Assignment, Match, atom_at}
-use Rattle.dl_syntax.proofs.AllByCons.{All-from_contains}
+use Rattle.list_lemmas.proofs.Elements.{All-from_contains}
 use Rattle.ucq_join.specs.Alike.{HasPredicateOf, AgreeOn, AnswersAreAlike}
 
 own_predicate : (t : Assignment) (a : Atom) → HasPredicateOf a (atom_at t a)

@@ -11,8 +11,8 @@ use Rattle.std.proofs.lemmas.List.Elements.{Contains-push_cases, Contains-append
 use Rattle.std.proofs.lemmas.List.Elements.{Contains-push}
 use Rattle.std.proofs.lemmas.List.Sorted.{Contains-permutation, IsPermutation-sym}
 use Rattle.std.proofs.lemmas.List.Sorted.{IsPermutation-more, IsPermutation-refl}
-use Rattle.dl_syntax.proofs.AllByCons.{Contains-none, Contains-first, Contains-later}
-use Rattle.dl_syntax.proofs.AllByCons.{Contains-cons_cases, All-from_contains}
+use Rattle.list_lemmas.proofs.Elements.{Contains-none, Contains-first, Contains-later}
+use Rattle.list_lemmas.proofs.Elements.{Contains-cons_cases, All-from_contains}
 use Rattle.dl_syntax.specs.declared.facts.Element.{Element}
 use Rattle.dl_syntax.specs.declared.facts.Fact.{Fact}
 use Rattle.dl_syntax.specs.declared.facts.Fact.TheVariants as fact
@@ -27,8 +27,8 @@ use Rattle.ucq_join.specs.Bindings.{Extends, IsAssigned}
 use Rattle.ucq_join.specs.Gathered.{Gathered, AddsRows}
 use Rattle.ucq_join.specs.Partial.{IsCovered, HeadIsCovered, IsAnswerFrom, HasMatch}
 use Rattle.ucq_join.specs.Split.{IsMet, Touches, AddsTerms, IsSplit}
-use Rattle.ucq_join.proofs.Adding.{adds_by, adds_none}
-use Rattle.ucq_join.proofs.Witnesses.{covered_member, covered_bound, covered_cases, query_covered}
+use Rattle.ucq_join.proofs.Adding.{adds_by, adds_none, bound_covered}
+use Rattle.ucq_join.proofs.Witnesses.{covered_member, covered_cases, query_covered}
 
 -- whether the variable stands in the atom, and in one of the atoms
 is_variable : ℕ → Term → Bool
@@ -405,7 +405,7 @@ taken_covered q taken rest is split =
 
     by : (x : Term) → Contains q.head x → IsAssigned [] x
         ⊎ ((a : Atom) × Contains q.body a × HasTerm a x) → IsCovered [] taken x
-    by (term.Ind a) there either = covered_bound [] taken (term.Ind a) tt
+    by (term.Ind a) there either = bound_covered [] taken (term.Ind a) tt
     by (term.Var v) there (inl assigned) = absurd (cc)
     by (term.Var v) there (inr (a, in_body, h)) = side v a there h ((split.members a).0 in_body)
 

@@ -9,8 +9,9 @@ use Rattle.std.proofs.lemmas.List.Elements.{Contains-append_left, Contains-appen
 use Rattle.std.proofs.lemmas.List.Elements.{Contains-append_cases}
 use Rattle.std.proofs.lemmas.List.Sorted.{All-permutation, Contains-permutation, IsPermutation-sym}
 use Rattle.std.specs.List.Sorted.{IsPermutation}
-use Rattle.dl_syntax.proofs.AllByCons.{Contains-none, Contains-first, Contains-later}
-use Rattle.dl_syntax.proofs.AllByCons.{Contains-cons_cases, Contains-single}
+use Rattle.list_lemmas.proofs.Elements.{Contains-none, Contains-first, Contains-later}
+use Rattle.list_lemmas.proofs.Elements.{Contains-cons_cases, Contains-single}
+use Rattle.list_lemmas.proofs.Filters.{Contains-filter}
 use Rattle.dl_syntax.specs.declared.facts.Element.{Element}
 use Rattle.dl_syntax.specs.declared.facts.Element.TheVariants as element
 use Rattle.dl_syntax.specs.declared.facts.Fact.{Fact}
@@ -28,7 +29,6 @@ use Rattle.dl_syntax.specs.Match.{Assignment, Match, term_at, atom_at}
 use Rattle.dl_syntax.specs.Queries.{HasTerm, IsBound, IsQuery}
 use Rattle.fact_index.specs.Order.{is_of_concept, is_of_role, first_of, last_of, element_eq}
 use Rattle.fact_index.proofs.Orders.{element_eq-refl}
-use Rattle.fact_index.proofs.Dedup.{Contains-filter}
 use Rattle.ucq_join.specs.declared.bindings.Binding.{Binding}
 use Rattle.ucq_join.specs.Bindings.{element_of, bind_atom, Extends, IsAssigned}
 use Rattle.ucq_join.specs.Answers.{IsAnswer, IsUnionAnswer}
@@ -37,7 +37,8 @@ use Rattle.ucq_join.specs.Partial.{IsCovered, HeadIsCovered, HeadBecomes, IsAnsw
 use Rattle.ucq_join.specs.Partial.{IsAnswerAmong, HasMatch, HasMatchAt, HasMatchAmong, IsComplete}
 use Rattle.ucq_join.specs.Partial.{row_of}
 use Rattle.ucq_join.proofs.Extensions.{Extends-some, some_extension, Narrows, bind_atom_law}
-use Rattle.ucq_join.proofs.Adding.{adds_by, adds_none, row_law, rows_same, all_weaker}
+use Rattle.ucq_join.proofs.Adding.{adds_by, adds_none, bound_covered, row_law, rows_same}
+use Rattle.ucq_join.proofs.Adding.{all_weaker}
 
 -- run keeps, of the facts, those that pass, and nothing else
 pub record Keeps (facts run : List Fact) (passes : Fact → Type 0) : Type 0 where
@@ -270,11 +271,6 @@ covered_member bs (b ∷ atoms) x a m h = elim (Contains-cons_cases b atoms a m)
   | inr k ↦ inr (covered_member bs atoms x a k h)
 ]
 
-pub covered_bound : (bs : List Binding) (atoms : List Atom) (x : Term) → IsAssigned bs x
-    → IsCovered bs atoms x
-covered_bound bs [] x h = h
-covered_bound bs (b ∷ atoms) x h = inr (covered_bound bs atoms x h)
-
 pub covered_cases : (bs : List Binding) (atoms : List Atom) (x : Term) → IsCovered bs atoms x
     → IsAssigned bs x ⊎ ((a : Atom) × Contains atoms a × HasTerm a x)
 covered_cases bs [] x h = inl h
@@ -290,7 +286,7 @@ pub covered_permuted : (bs : List Binding) (body atoms : List Atom) (head : List
     → IsPermutation body atoms → HeadIsCovered bs body head → HeadIsCovered bs atoms head
 covered_permuted bs body atoms head p h =
     all_weaker (IsCovered bs body) (IsCovered bs atoms) (λ x c. elim (covered_cases bs body x c) [
-      | inl k ↦ covered_bound bs atoms x k
+      | inl k ↦ bound_covered bs atoms x k
       | inr k ↦ covered_member bs atoms x k.0 (Contains-permutation body atoms k.0 p k.1) k.2
     ]) head h
 
@@ -311,7 +307,7 @@ adds_permuted facts head body atoms bs x y p h =
 
 -- the head of a query is covered by its body
 term_covered : (body : List Atom) (x : Term) → IsBound body x → IsCovered [] body x
-term_covered body (term.Ind a) h = covered_bound [] body (term.Ind a) tt
+term_covered body (term.Ind a) h = bound_covered [] body (term.Ind a) tt
 term_covered body (term.Var v) (k, a, below, is, has) =
     covered_member [] body (term.Var v) a (k, below, is) has
 

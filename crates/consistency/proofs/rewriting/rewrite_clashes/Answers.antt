@@ -12,7 +12,7 @@ use Rattle.perfect_ref.proofs.Counting.{all_joined, all_one, more_first, more_la
 use Rattle.std.specs.Prelude.{Err}
 use Rattle.consistency.specs.Asking.{query_of, queries_of}
 use Rattle.consistency.specs.Prepared.{IsRewriting}
-use Rattle.consistency.proofs.Zipped.{AllZip-next}
+use Rattle.list_lemmas.proofs.Zipped.{AllZip-next}
 use Rattle.consistency.proofs.rewriting.rewrite_clashes.Goals as goal
 
 none : Clash

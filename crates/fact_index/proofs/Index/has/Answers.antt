@@ -1,6 +1,7 @@
-use Rattle.fact_index.proofs.Orders.{exact_facts, fact_cmp-total, sorted_from_strict}
+use Rattle.fact_index.proofs.Orders.{exact_facts, fact_cmp-total}
 use Rattle.fact_index.proofs.SortedRuns.{searched}
 use Rattle.fact_index.proofs.Index.has.Goals as goal
+use Rattle.list_lemmas.proofs.Filters.{sorted_from_strict}
 
 pub returns : goal.returns
 returns c =

@@ -1,7 +1,7 @@
 use Rattle.std.proofs.Common.{length, subst, arith, IsTrue, Contains, ◌<◌, get_or, Err, false}
-use Rattle.fact_index.proofs.Orders.{exact_facts, fact_cmp-total, sorted_from_strict}
+use Rattle.fact_index.proofs.Orders.{exact_facts, fact_cmp-total}
 use Rattle.fact_index.proofs.SortedRuns.{searched}
-use Rattle.fact_index.proofs.Dedup.{one_at}
+use Rattle.list_lemmas.proofs.Filters.{sorted_from_strict, one_at}
 use Rattle.fact_index.proofs.Index.only.Goals as goal
 
 pub returns-in-Ok : goal.returns-in-Ok

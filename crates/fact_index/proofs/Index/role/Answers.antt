@@ -2,7 +2,7 @@ use Rattle.std.specs.List.{filter}
 use Rattle.fact_index.specs.Order.{is_of_role}
 use Rattle.fact_index.specs.Index.{is_role}
 use Rattle.fact_index.proofs.PredicateTests.{filter_of_roles}
-use Rattle.fact_index.proofs.Dedup.{filter_members}
+use Rattle.list_lemmas.proofs.Filters.{filter_members}
 use Rattle.fact_index.proofs.Index.role.Goals as goal
 
 pub returns-then-inverse-clause-members : goal.returns-then-inverse-clause-members

@@ -3,7 +3,7 @@ use Rattle.fact_index.specs.Order.{turned_of}
 use Rattle.fact_index.proofs.Orders.{fact_cmp-total, fact_eq-equiv, fact_eq-same, fact_eq-ties}
 use Rattle.fact_index.proofs.Orders.{last_cmp-total}
 use Rattle.fact_index.proofs.PredicateTests.{last_ties}
-use Rattle.fact_index.proofs.Dedup.{members_of_dedup, rising_from_dedup}
+use Rattle.list_lemmas.proofs.Filters.{members_of_dedup, rising_from_dedup}
 use Rattle.std.proofs.lemmas.List.Sorted.{answers_always}
 use Rattle.fact_index.proofs.build.index.Goals as goal
 

@@ -6,10 +6,11 @@ use Rattle.std.proofs.lemmas.List.{take_rest}
 use Rattle.std.proofs.lemmas.List.Kept.{IsStrictlySortedBy-filter}
 use Rattle.std.specs.List.Sorted.{IsStrictlySortedBy}
 use Rattle.std.proofs.lemmas.List.Sorted.{IsPartitionPoint-from_clause}
+use Rattle.list_lemmas.proofs.Filters.{sorted_from_strict}
 use Rattle.dl_syntax.specs.declared.facts.Fact.{Fact}
 use Rattle.fact_index.specs.Order.{element_cmp, is_of_role, last_cmp, last_of, turned_of}
 use Rattle.fact_index.specs.Index.{is_before_role}
-use Rattle.fact_index.proofs.Orders.{fact_cmp-total, last_cmp-total, sorted_from_strict}
+use Rattle.fact_index.proofs.Orders.{fact_cmp-total, last_cmp-total}
 use Rattle.fact_index.proofs.SortedRuns.{filter_ordered, run_is}
 use Rattle.fact_index.proofs.PredicateTests.{role_by_last, role_not_before, turned_before}
 use Rattle.fact_index.proofs.PredicateTests.{turned_of_role}

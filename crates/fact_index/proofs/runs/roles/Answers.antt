@@ -1,8 +1,9 @@
 use Rattle.std.proofs.Common.{rules, not}
 use Rattle.std.proofs.lemmas.List.{take_rest}
 use Rattle.std.proofs.lemmas.List.Sorted.{IsPartitionPoint-from_clause}
+use Rattle.list_lemmas.proofs.Filters.{sorted_from_strict}
 use Rattle.fact_index.specs.Index.{is_role}
-use Rattle.fact_index.proofs.Orders.{fact_cmp-total, sorted_from_strict}
+use Rattle.fact_index.proofs.Orders.{fact_cmp-total}
 use Rattle.fact_index.proofs.SortedRuns.{filter_rest, partitioned}
 use Rattle.fact_index.proofs.PredicateTests.{concept_down, roles_apart, roles_rest}
 use Rattle.fact_index.proofs.runs.roles.Goals as goal

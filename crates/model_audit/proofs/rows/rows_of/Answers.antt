@@ -1,7 +1,7 @@
 -- Answers to the goals of `rows_of`: each answer is as long as the head.
 use Rattle.std.proofs.Common.{◌≡◌, List, length, sym, ◌∙◌, ap}
 use Rattle.dl_syntax.specs.declared.names.IndId.{IndId}
-use Rattle.dl_syntax.proofs.AllByCons.{All-from_contains}
+use Rattle.list_lemmas.proofs.Elements.{All-from_contains}
 use Rattle.model_audit.proofs.Selecting.{answer_long, one_answer, declared_rows_of}
 use Rattle.model_audit.proofs.rows.rows_of.Goals as goal
 

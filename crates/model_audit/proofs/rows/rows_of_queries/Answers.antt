@@ -5,12 +5,12 @@ use Rattle.std.specs.Global.{Global}
 use Rattle.dl_syntax.specs.Rows.{Relation}
 use Rattle.tcq_syntax.specs.Tcq.{Tcq}
 use Rattle.model_audit.specs.Rows.{AreRowsOfQuery}
-use Rattle.model_audit.proofs.Leaves.{zip_next}
+use Rattle.list_lemmas.proofs.Zipped.{AllZip-next}
 use Rattle.model_audit.proofs.rows.rows_of_queries.Goals as goal
 
 pub loop-query-preserved : goal.loop-query-preserved
 loop-query-preserved c =
-    zip_next (λ (query : Tcq) (each : Vec Relation Global).
+    AllZip-next (λ (query : Tcq) (each : Vec Relation Global).
     AreRowsOfQuery c.args.index.now c.args.count query each.items)
     c.args.queries.now c.loop-query.rows.items c.push.new.self.items c.loop-query.query-index
     c.query-item.result

@@ -1,7 +1,7 @@
 use Rattle.std.proofs.Common.{◌≡◌, ℕ, List, [], ◌∷◌, sym, ◌∙◌, ap, subst}
 use Rattle.formula_store.specs.Interned.{interned_all}
 use Rattle.formula_store.proofs.Lists.{generation}
-use Rattle.dl_syntax.proofs.AllByCons.{Contains-first, Contains-single}
+use Rattle.list_lemmas.proofs.Elements.{Contains-first, Contains-single}
 use Rattle.progression.specs.declared.kept.Kept.{Kept}
 use Rattle.monitor_core.specs.Keeping.{KeepsOf, KeepsAntichain, AddsAntichains}
 use Rattle.monitor_core.proofs.Storing.{adds_same, store_of}

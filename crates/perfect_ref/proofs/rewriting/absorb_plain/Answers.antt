@@ -4,7 +4,7 @@ use Rattle.std.specs.List.{Contains}
 use Rattle.std.proofs.lemmas.Grind.{common_steps}
 use Rattle.dl_syntax.specs.declared.queries.Cq.{Cq}
 use Rattle.std.proofs.lemmas.List.{append-nil}
-use Rattle.dl_syntax.proofs.AllByCons.{Contains-none}
+use Rattle.list_lemmas.proofs.Elements.{Contains-none}
 use Rattle.dl_syntax.proofs.Exactness.{queries_exact}
 use Rattle.perfect_ref.specs.Plain.{IsPlain}
 use Rattle.perfect_ref.specs.Found.{Absorbs}

@@ -1,6 +1,6 @@
 use Rattle.std.proofs.lemmas.List.Elements.{All-weaker}
 use Rattle.dl_syntax.specs.Names.{IsName, IsDeclarable}
-use Rattle.dl_syntax.proofs.AllByCons.{All-back}
+use Rattle.list_lemmas.proofs.Elements.{All-back}
 use Rattle.report_text.proofs.names.individuals_are_spelled.Goals as goal
 
 pub returns : goal.returns

@@ -1,6 +1,6 @@
 use Rattle.std.proofs.Common.{◌≡◌, ◌+◌, ◌<◌, true, length, drop, get_or, sym, ap, subst, ◌∙◌, arith}
 use Rattle.std.proofs.Common.{rules}
-use Rattle.text_scan.specs.Bytes.{is_letter}
+use Rattle.dl_syntax.specs.Names.{is_letter}
 use Rattle.text_scan.specs.declared.Piece.TheVariants.{Word, Fault}
 use Rattle.text_scan.specs.Lexing.{Lexeme, front_piece}
 use Rattle.text_scan.proofs.Expected.{IsNamed, word_next, name_there, named_name, fault_first}

@@ -3,7 +3,7 @@ use Rattle.std.specs.List.{Contains}
 use Rattle.std.proofs.lemmas.Bool.{eqb-true}
 use Rattle.dl_syntax.specs.declared.facts.Fact.{Fact}
 use Rattle.dl_syntax.specs.Match.{atom_at}
-use Rattle.dl_syntax.proofs.AllByCons.{Contains-none}
+use Rattle.list_lemmas.proofs.Elements.{Contains-none}
 use Rattle.ucq_join.proofs.Adding.{nil_from_length}
 use Rattle.ucq_join.proofs.join.lacks_fact.Goals as goal
 

@@ -5,7 +5,7 @@ use Rattle.std.proofs.lemmas.List.Kept.{AllPairs-cons}
 use Rattle.dl_syntax.specs.declared.facts.Fact.{Fact}
 use Rattle.dl_syntax.specs.Facts.{HasNoNull}
 use Rattle.dl_syntax.specs.Snapshots.{IsSnapshot}
-use Rattle.dl_syntax.proofs.AllByCons.{AllPairs-nil}
+use Rattle.list_lemmas.proofs.Elements.{AllPairs-nil}
 use Rattle.ucq_join.proofs.tests.snapshot_of.Goals as goal
 
 two_facts : (f g : Fact) → f ≢ g → HasNoNull f → HasNoNull g → IsSnapshot (f ∷ g ∷ [])

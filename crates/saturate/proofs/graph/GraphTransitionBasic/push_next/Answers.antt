@@ -1,4 +1,4 @@
-use Rattle.dl_syntax.proofs.AllByCons.{All-from_contains}
+use Rattle.list_lemmas.proofs.Elements.{All-from_contains}
 use Rattle.saturate.specs.Above.{Along}
 use Rattle.saturate.proofs.graph.GraphTransitionBasic.push_next.Goals as goal
 

@@ -1,20 +1,24 @@
--- What a sort and a `dedup` leave.
+-- What a sort, a `dedup` and a filter leave.
 use Rattle.std.specs.Prelude.{◌≡◌, ℕ, List, [], ◌∷◌, Bool, true, false, cond, Contains, ◌↔◌, ◌⊎◌}
-use Rattle.std.specs.Prelude.{refl, ◌+◌, ◌-◌, ◌<◌, length, take, drop, slice_index_or}
-use Rattle.std.proofs.Common.{sym, ◌∙◌, ap, subst, inl, inr, arith, drop-cons}
+use Rattle.std.specs.Prelude.{refl, zero, suc, ◌+◌, ◌-◌, ◌<◌, length, take, drop, slice_index_or}
+use Rattle.std.proofs.Common.{sym, ◌∙◌, ap, subst, inl, inr, arith, drop-cons, get_or}
 use Rattle.std.specs.List.{dedup, filter}
 use Rattle.std.specs.List.Retain.{IsFiltered, DiffersFromLast}
 use Rattle.std.specs.List.Sorted.{IsSorted, IsStrictlySortedBy, IsPermutation}
 use Rattle.std.specs.Cmp.{IsTotalOrder, IsEquivalence}
-use Rattle.std.specs.Ordering.{eq_by_cmp}
+use Rattle.std.specs.Ordering.{is_lt, ordering_reverse, eq_by_cmp}
 use Rattle.std.specs.declared.cmp.Ordering.{Ordering}
+use Rattle.std.specs.declared.cmp.Ordering.TheVariants.{Less}
 use Rattle.std.proofs.lemmas.List.Filters.{dedup_is}
 use Rattle.std.proofs.lemmas.List.Kept.{Contains-dedup, Contains-from_dedup}
 use Rattle.std.proofs.lemmas.List.Kept.{IsStrictlySortedBy-dedup}
+use Rattle.std.proofs.lemmas.Map.Keys.{sorted_tail}
+use Rattle.std.proofs.lemmas.Map.Views.{All-after_first}
 use Rattle.std.proofs.lemmas.List.Sorted.{Contains-permutation, IsPermutation-sym}
-use Rattle.dl_syntax.proofs.AllByCons.{Contains-none, Contains-first, Contains-later}
-use Rattle.dl_syntax.proofs.AllByCons.{Contains-cons_cases, Contains-single}
+use Rattle.list_lemmas.proofs.Elements.{Contains-none, Contains-first, Contains-later}
+use Rattle.list_lemmas.proofs.Elements.{Contains-cons_cases, Contains-single}
 
+-- a sorted list without repeats rises
 pub rising_from_dedup :
     {X : Type 0} {R : X → X → Ordering} (o : IsTotalOrder R) {E : X → X → Bool} (ties : (x y : X)
     → E x y ≡ eq_by_cmp R x y)
@@ -24,6 +28,7 @@ rising_from_dedup {R = R} o {E = E} ties xs ys up kept =
     subst (λ zs. IsStrictlySortedBy R zs) (sym (dedup_is E xs ys kept))
     (IsStrictlySortedBy-dedup o ties xs up)
 
+-- and has the elements of the list that was sorted
 pub members_of_dedup :
     {X : Type 0} {E : X → X → Bool} (e : IsEquivalence E) (same : (x y : X) → E x y ≡ true → x ≡ y)
     (ws xs ys : List X) → IsPermutation ws xs → IsFiltered (DiffersFromLast E) [] xs ys → (f : X)
@@ -73,6 +78,7 @@ module _ {X : Type 0} where
     | inr k ↦ filter_keeps (p y) y x (filter p ys) (kept_by_filter p ys x k t)
   ]
 
+  -- a filter keeps exactly the elements that pass
   pub Contains-filter : (p : X → Bool) (xs : List X) (x : X)
       → Contains (filter p xs) x ↔ (Contains xs x × (p x ≡ true))
   Contains-filter p xs x = (passes_from_filter p xs x, λ m. kept_by_filter p xs x m.0 m.1)
@@ -97,3 +103,15 @@ module _ {X : Type 0} where
             (subst (λ y. Contains xs y) s (i, lt, e), sym s)),
         (λ h. subst P (sym part) (subst (Contains (x ∷ [])) (sym h.1) (Contains-first x []))),
       )
+
+-- a strictly rising list is sorted
+pub sorted_from_strict : {K : Type 0} {R : K → K → Ordering} (o : IsTotalOrder R) (xs : List K)
+    → IsStrictlySortedBy R xs → IsSorted R xs
+sorted_from_strict o [] h k d lo hi = absurd (omega arith)
+sorted_from_strict {R = R} o (x ∷ xs) h zero d lo hi =
+    let less : R x (get_or xs 0 d) ≡ Less = All-after_first R x xs h 0 d (omega arith) in
+    ap is_lt (o.antisymm (get_or xs 0 d) x ∙ ap ordering_reverse less)
+sorted_from_strict {R = R} o (x ∷ xs) h (suc k) d lo hi =
+    let P : ℕ → Type 0 = λ n. is_lt (R (get_or (x ∷ xs) n d) (get_or xs k d)) ≡ false in
+    let e : suc (k + 1) ≡ suc k + 1 = omega arith in
+    subst P e (sorted_from_strict o xs (sorted_tail R x xs h) k d (omega arith) (omega arith))
