@@ -11,7 +11,8 @@ use Rattle.std.proofs.lemmas.List.Elements.{Contains-append_right}
 use Rattle.std.proofs.lemmas.List.Sums.{sum_by-cons, sum_by-append}
 use Rattle.dl_syntax.specs.declared.names.IndId.{IndId}
 use Rattle.dl_syntax.specs.declared.ontology.Inclusion.{Inclusion}
-use Rattle.dl_syntax.proofs.AllByCons.{Contains-none, Contains-first, Contains-cons_cases}
+use Rattle.list_lemmas.proofs.Elements.{Contains-none, Contains-first, Contains-cons_cases}
+use Rattle.list_lemmas.proofs.Maps.{Contains-map}
 use Rattle.tcq_syntax.specs.Formula.{Formula, False, formulas, formula_at}
 use Rattle.tcq_syntax.specs.Tcq.{Tcq}
 use Rattle.tcq_syntax.specs.Histories.{History, individuals_of, slots_of}
@@ -23,7 +24,7 @@ use Rattle.tcq_syntax.specs.Laws.{ClosedKeptSize, OpenKeptSize}
 use Rattle.tcq_syntax.proofs.OneList.{one_minimal}
 use Rattle.tcq_syntax.proofs.Tables.{length-formulas}
 use Rattle.tcq_syntax.proofs.Weights.{weight-le, rising-le, numbers, length-numbers}
-use Rattle.tcq_syntax.proofs.Weights.{numbers-contain, Contains-map, pairs, length-pairs}
+use Rattle.tcq_syntax.proofs.Weights.{numbers-contain, pairs, length-pairs}
 use Rattle.tcq_syntax.proofs.Weights.{pairs-contain, sum_by-same}
 
 -- the rows of so many numbers below the bound

@@ -8,9 +8,10 @@ use Rattle.std.proofs.lemmas.List.{length-map}
 use Rattle.std.proofs.lemmas.List.Elements.{All-head, All-tail, All-weaker, Contains-append_left}
 use Rattle.std.proofs.lemmas.List.Elements.{Contains-append_right}
 use Rattle.std.proofs.lemmas.List.Sums.{sum_by-cons}
-use Rattle.dl_syntax.proofs.AllByCons.{All-from_contains, Contains-none, Contains-first}
-use Rattle.dl_syntax.proofs.AllByCons.{Contains-later, Contains-cons_cases, AllPairs-head}
-use Rattle.dl_syntax.proofs.AllByCons.{AllPairs-first, AllPairs-tail}
+use Rattle.list_lemmas.proofs.Elements.{All-from_contains, Contains-none, Contains-first}
+use Rattle.list_lemmas.proofs.Elements.{Contains-later, Contains-cons_cases, AllPairs-head}
+use Rattle.list_lemmas.proofs.Elements.{AllPairs-first, AllPairs-tail}
+use Rattle.list_lemmas.proofs.Maps.{Contains-map}
 
 -- the list without one of its elements
 pub record Without (X : Type 0) (f : X → ℕ) (x : X) (ys : List X) : Type 0 where
@@ -138,14 +139,6 @@ numbers-contain (suc n) k below = elim (cases_lt k n) [
   | inl less ↦ Contains-later n (numbers n) k (numbers-contain n k less)
   | inr more ↦ let same : n ≡ k = omega arith in
       subst (Contains (n ∷ numbers n)) same (Contains-first n (numbers n))
-]
-
-pub Contains-map : {X Y : Type 0} (f : X → Y) (xs : List X) (x : X) → Contains xs x
-    → Contains (map f xs) (f x)
-Contains-map f [] x there = absurd (Contains-none x there)
-Contains-map f (y ∷ xs) x there = elim (Contains-cons_cases y xs x there) [
-  | inl same ↦ subst (λ z. Contains (f y ∷ map f xs) (f z)) same (Contains-first (f y) (map f xs))
-  | inr later ↦ Contains-later (f y) (map f xs) (f x) (Contains-map f xs x later)
 ]
 
 -- each pair of an element of the one list and one of the other
