@@ -8,7 +8,7 @@ use Rattle.stream_report.specs.declared.ending.Ending.{Ending}
 use Rattle.stream_report.specs.declared.ending.Ending.TheVariants.{Done, Usage, Refused, ReadFault}
 use Rattle.stream_report.specs.declared.ending.Ending.TheVariants.{WriteFault, Memory, StreamLimit}
 use Rattle.stream_report.specs.Told.{Told, Manner, Part, Report}
-use Rattle.stream_report.specs.Writing.{IsProperFront}
+use Rattle.edge_io.specs.Writing.{IsProperFront}
 use Rattle.stream_report.specs.Ends.{IsBeginning, Wrote}
 use Rattle.stream_report.specs.Laws.{Parts, HasOneText, IsTotal, OneReport, OnePart, BeginsAll}
 use Rattle.stream_report.specs.Laws.{BeginsWhole, CutShort, CutShortOfSome, LimitIsExact}

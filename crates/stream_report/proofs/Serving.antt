@@ -18,7 +18,8 @@ use Rattle.stream_report.specs.Outside.{Ports}
 use Rattle.stream_report.specs.Told.{Manner, Told, Part, Report, Tells, TellsLine, Closes}
 use Rattle.stream_report.specs.Ends.{ending_of, BeginsPart, Wrote, Streamed, Written, IsWritten}
 use Rattle.stream_report.specs.Ends.{Finishes}
-use Rattle.stream_report.specs.Writing.{Flushes, IsProperFront}
+use Rattle.edge_io.specs.Writing.{IsProperFront}
+use Rattle.stream_report.specs.Writing.{Flushes}
 use Rattle.stream_report.specs.Serving.{Serves}
 use Rattle.stream_report.proofs.ToldLaws.{told_joined}
 

@@ -11,7 +11,7 @@ use Rattle.stream_report.specs.declared.ending.Ending.TheVariants.{Done, ReadFau
 use Rattle.stream_report.specs.declared.ending.Ending.TheVariants.{Memory, StreamLimit}
 use Rattle.stream_report.specs.Outside.{Ports}
 use Rattle.stream_report.specs.Told.{Manner, Part, Report, Closes}
-use Rattle.stream_report.specs.Writing.{IsProperFront}
+use Rattle.edge_io.specs.Writing.{IsProperFront}
 
 abbrev pub ending_of : {Refusal : Type 0} → ReadEnd → Ending Refusal
 ending_of ends.ReadFault = ReadFault

@@ -7,7 +7,7 @@ use Rattle.stream_report.specs.declared.ending.Ending.{Ending}
 use Rattle.stream_report.specs.declared.ending.Ending.TheVariants.{Memory, StreamLimit}
 use Rattle.stream_report.specs.Outside.{Ports}
 use Rattle.stream_report.specs.Told.{Step, Told, Manner, Part, Report}
-use Rattle.stream_report.specs.Writing.{IsProperFront}
+use Rattle.edge_io.specs.Writing.{IsProperFront}
 use Rattle.stream_report.specs.Ends.{IsBeginning, BeginsPart, BeginsReport, Streamed}
 
 -- the step gives one text, and one state

@@ -1,19 +1,8 @@
 -- Writing bytes to a sink.
-use Rattle.std.specs.Prelude.{◌≡◌, ℕ, ◌<◌, Bool, true, List, [], ◌++◌, length, Result, OnOk, OnErr}
+use Rattle.std.specs.Prelude.{◌≡◌, ℕ, Bool, true, List, [], ◌++◌, Result, OnOk, OnErr}
 use Rattle.std.specs.declared.option.Option.{Option}
-use Rattle.edge_io.specs.Known.{Gains, IsFront}
-
--- xs is the beginning of ys, and not all of it
-abbrev pub IsProperFront : List ℕ → List ℕ → Type 0
-IsProperFront xs ys = IsFront xs ys × (length xs < length ys)
-
--- the sink gained these bytes on Ok, and otherwise a proper beginning of them
-pub record Writes {T E : Type 0} (before now : Option (List ℕ)) (bytes : List ℕ)
-    (result : Result T E) : Type 0 where
-  pub wrote : List ℕ
-  pub gains : Gains before now wrote
-  pub whole : OnOk result (wrote ≡ bytes)
-  pub failed : OnErr result (IsProperFront wrote bytes)
+use Rattle.edge_io.specs.Known.{Gains}
+use Rattle.edge_io.specs.Writing.{IsProperFront}
 
 -- bytes moved from a buffer to the sink, all of them if it was to be emptied; a fault left some
 -- behind

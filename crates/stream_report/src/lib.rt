@@ -14,4 +14,4 @@ pub use ending::Ending;
 pub use line::GivenLine;
 pub use reporter::Reporter;
 pub use running::report_stream;
-pub use writing::{write_all, write_text};
+pub use writing::write_text;

@@ -7,9 +7,9 @@ ghost use Rattle.stream_report.specs.Ends.{Streamed, Finishes, HasFault, ending_
 ghost use Rattle.stream_report.specs.Outside.{ports_of};
 ghost use Rattle.stream_report.specs.Told.{Tells};
 
-use crate::writing::{flush, write_all};
+use crate::writing::flush;
 use crate::{Ending, GivenLine, Reporter};
-use edge_io::{Line, LineReader, Memory, ReadEnd, Sink, Source};
+use edge_io::{Line, LineReader, Memory, ReadEnd, Sink, Source, write_all};
 use std::alloc::Global;
 
 /// How many bytes a run takes at most, but for one.

@@ -3,30 +3,13 @@
 ghost use Rattle.std.specs.Prelude.{◌≡◌};
 ghost use Rattle.edge_io.specs.Causes.{HasCause, Rose};
 ghost use Rattle.stream_report.specs.Ends.{Written};
-ghost use Rattle.stream_report.specs.Writing.{Writes, Flushes};
+ghost use Rattle.stream_report.specs.Writing.{Flushes};
 
 use crate::Ending;
-use edge_io::{Failed, Sink};
+use edge_io::{Failed, Sink, write_all};
 
 /// How many bytes are gathered before they are written.
 const FULL: usize = 65_536;
-
-/// Writes all of these bytes, in as many pieces as the sink takes.
-///
-/// After a fault the sink has gained a beginning of them, and not all.
-pub fn write_all<K: Sink>(sink: &mut K, bytes: &[u8]) -> Result<(), Failed>
-    ensures writes { Writes (K.got sink.old) (K.got sink.new) bytes.now result }
-    ensures cause { HasCause (K.faults sink.old) (K.faults sink.new) result }
-{
-    let mut at = 0;
-    while at < bytes.len() {
-        match sink.write(&bytes[at..]) {
-            Ok(count) => at += count,
-            Err(fault) => return Err(fault),
-        }
-    }
-    Ok(())
-}
 
 /// Writes what was gathered, if the next line may have to be read, or if it is much.
 pub fn flush<K: Sink>(is_waiting: bool, gathered: &mut Vec<u8>, out: &mut K) -> Result<(), Failed>
