@@ -22,15 +22,15 @@ pub record HasGathered (o : Declared) (whole left : Option (List Written)) (h : 
     pub rest : behind_facts done left ≡ whole
     pub gathers : Gathers o done h
 
+pub nothing_behind : (facts : Option (List Written)) → behind_facts [] facts ≡ facts
+nothing_behind None = refl
+nothing_behind (Some facts) = refl
+
 pub at_first : (o : Declared) (whole : Option (List Written)) (h : Gathered) → Gathers o [] h
     → HasGathered o whole whole h
-at_first o whole h gathers = record { done = []; rest = same whole; gathers = gathers }
-  where
-    same : (facts : Option (List Written)) → behind_facts [] facts ≡ facts
-    same None = refl
-    same (Some facts) = refl
+at_first o whole h gathers = record { done = []; rest = nothing_behind whole; gathers = gathers }
 
-moved : (done : List Written) (w : Written) (left : Option (List Written))
+pub moved : (done : List Written) (w : Written) (left : Option (List Written))
     → behind_facts done (option_map (λ facts. w ∷ facts) left) ≡ behind_facts (done ++ w ∷ []) left
 moved done w None = refl
 moved done w (Some facts) = ap Some (simp append_assoc)

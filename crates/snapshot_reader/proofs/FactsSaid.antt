@@ -1,11 +1,10 @@
 -- What facts say, by what is known of them.
-use Rattle.std.proofs.Common.{◌≡◌, ℕ, ◌≤◌, ◌<◌, Bool, true, false, ltb, List, [], ◌∷◌, ◌++◌, length}
-use Rattle.std.proofs.Common.{refl, sym, ◌∙◌, arith, inl, inr}
+use Rattle.std.proofs.Common.{◌≡◌, ℕ, Bool, true, false, List, [], ◌∷◌, ◌++◌}
+use Rattle.std.proofs.Common.{refl, sym, ◌∙◌, inl, inr}
 use Rattle.std.specs.Prelude.{◌≢◌, ◌⊎◌, ◌||◌, Option, Some, None, IfSome, fold, filter_map}
 use Rattle.std.specs.List.{All, Contains, list_any, cons_option}
 use Rattle.std.specs.Option.{option_map}
 use Rattle.std.proofs.lemmas.Bool.{cond_both}
-use Rattle.std.proofs.lemmas.Bool.Decides.{Decides-ltb}
 use Rattle.std.proofs.lemmas.List.Elements.{All-nil, All-cons, All-head, All-tail, All-push}
 use Rattle.dl_syntax.specs.declared.names.Kind.TheVariants.{Concept, Role, Individual}
 use Rattle.dl_syntax.specs.declared.facts.Element.TheVariants.{Ind}
@@ -14,49 +13,12 @@ use Rattle.dl_syntax.specs.declared.facts.Fact.TheVariants as fact
 use Rattle.dl_syntax.specs.Facts.{HasNoNull}
 use Rattle.dl_syntax.specs.Snapshots.{IsSnapshot}
 use Rattle.dl_syntax.specs.Ontology.{Declared, number_of}
-use Rattle.dl_syntax.proofs.AllByCons.{Contains-none, Contains-cons_cases, AllPairs-nil}
-use Rattle.dl_syntax.proofs.AllByCons.{AllPairs-push}
+use Rattle.list_lemmas.proofs.Elements.{Contains-none, Contains-cons_cases, AllPairs-nil}
+use Rattle.list_lemmas.proofs.Elements.{AllPairs-push}
 use Rattle.snapshot_reader.specs.Written.{Written, unary, binary}
-use Rattle.snapshot_reader.specs.Said.{first_unknown, first_misused, first_undeclared, most_facts}
-use Rattle.snapshot_reader.specs.Said.{fact_of, same_fact, with_fact, distinct, facts_say, refused}
-use Rattle.snapshot_reader.specs.Said.{says, unknown, wrong_kind, undeclared, too_many_facts, ◌>>=◌}
+use Rattle.snapshot_reader.specs.Said.{fact_of, same_fact, with_fact, distinct}
+use Rattle.snapshot_reader.specs.Said.{◌>>=◌}
 use Rattle.snapshot_reader.proofs.DistinctFacts.{fact_decides}
-
--- ---- the first cause
-
-pub says_unknown : (o : Declared) (facts : List Written) (name : List ℕ)
-    → first_unknown o facts ≡ Some name → facts_say o facts ≡ refused (unknown name)
-unfolding facts_say
-says_unknown o facts name is = rw is refl
-
-pub says_misused : (o : Declared) (facts : List Written) (name : List ℕ)
-    → first_unknown o facts ≡ None → first_misused o facts ≡ Some name
-    → facts_say o facts ≡ refused (wrong_kind name)
-unfolding facts_say
-says_misused o facts name known is = rw (known, is) refl
-
-pub says_undeclared : (o : Declared) (facts : List Written) (name : List ℕ)
-    → first_unknown o facts ≡ None → first_misused o facts ≡ None
-    → first_undeclared o facts ≡ Some name → facts_say o facts ≡ refused (undeclared name)
-unfolding facts_say
-says_undeclared o facts name known used is = rw (known, used, is) refl
-
-pub says_too_many : (o : Declared) (facts : List Written) → first_unknown o facts ≡ None
-    → first_misused o facts ≡ None → first_undeclared o facts ≡ None → most_facts < length facts
-    → facts_say o facts ≡ refused too_many_facts
-unfolding facts_say
-says_too_many o facts known used individuals many =
-    let test : ltb most_facts (length facts) ≡ true =
-    (Decides-ltb most_facts (length facts)).1 many in
-    rw (known, used, individuals, test) refl
-
-pub says_facts : (o : Declared) (facts : List Written) → first_unknown o facts ≡ None
-    → first_misused o facts ≡ None → first_undeclared o facts ≡ None → length facts ≤ most_facts
-    → facts_say o facts ≡ says (distinct (filter_map (fact_of o) facts))
-unfolding facts_say
-says_facts o facts known used individuals few =
-    let test : ltb most_facts (length facts) ≡ false = grind (arith, few) in
-    rw (known, used, individuals, test) refl
 
 -- ---- what is said is a snapshot
 
@@ -112,7 +74,8 @@ fact_free o (unary p a) = unary_free (number_of Concept o p) (number_of Individu
 fact_free o (binary p a b) =
     binary_free (number_of Role o p) (number_of Individual o a) (number_of Individual o b)
 
-cons_free : (found : Option Fact) (facts : List Fact) → IfSome found HasNoNull → All HasNoNull facts
+pub cons_free : (found : Option Fact) (facts : List Fact) → IfSome found HasNoNull
+    → All HasNoNull facts
     → All HasNoNull (cons_option found facts)
 cons_free None facts free later = later
 cons_free (Some f) facts free later = All-cons HasNoNull f facts free later

@@ -14,7 +14,7 @@ use Rattle.dl_syntax.specs.declared.facts.Fact.{Fact}
 use Rattle.dl_syntax.specs.declared.facts.Fact.TheVariants as fact
 use Rattle.dl_syntax.specs.Ontology.{Declared, number_of, is_declared}
 use Rattle.snapshot_reader.specs.declared.gathering.Gathered.{Gathered}
-use Rattle.snapshot_reader.specs.declared.gathering.Blamed.{Blamed}
+use Rattle.snapshot_reader.specs.declared.blaming.Blamed.{Blamed}
 use Rattle.snapshot_reader.specs.Written.{Written, unary, binary, predicate, arguments}
 use Rattle.snapshot_reader.specs.Said.{is_name_of, is_fitting, first_unknown, first_misused}
 use Rattle.snapshot_reader.specs.Said.{first_undeclared, fact_of, ◌>>=◌}
@@ -87,13 +87,13 @@ or_none : {X : Type 0} (a : Option X) → option_or a None ≡ a
 or_none None = refl
 or_none (Some x) = refl
 
-unknown_more : (o : Declared) (done : List Written) (w : Written)
+pub unknown_more : (o : Declared) (done : List Written) (w : Written)
     → first_unknown o (done ++ w ∷ []) ≡ option_or (first_unknown o done) (first_unknown o (w ∷ []))
 unknown_more o done w =
     ap (find (λ name. not (is_declared o name))) (map-append predicate done (w ∷ [])) ∙ find-append
     (λ name. not (is_declared o name)) (map predicate done) (predicate w ∷ [])
 
-misused_more : (o : Declared) (done : List Written) (w : Written)
+pub misused_more : (o : Declared) (done : List Written) (w : Written)
     → first_misused o (done ++ w ∷ []) ≡ option_or (first_misused o done) (first_misused o (w ∷ []))
 misused_more o done w =
     ap (option_map predicate) (find-append (λ written. not (is_fitting o written)) done (w ∷ []))

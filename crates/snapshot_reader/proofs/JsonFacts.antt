@@ -1,45 +1,23 @@
 -- The facts of a value, and of a line in JSON form.
-use Rattle.std.proofs.Common.{◌≡◌, ℕ, ◌<◌, ◌≤◌, ◌+◌, Bool, true, false, cond, leb, List, [], ◌∷◌}
+use Rattle.std.proofs.Common.{◌≡◌, ℕ, ◌<◌, ◌+◌, Bool, true, false, cond, List, [], ◌∷◌}
 use Rattle.std.proofs.Common.{length, drop, drop-cons, get_or, add-one, refl, sym, ap, ◌∙◌, arith}
-use Rattle.std.specs.Prelude.{◌&&◌, Option, Some, None}
+use Rattle.std.specs.Prelude.{Option, Some, None}
 use Rattle.std.specs.Option.{option_map, option_map_or}
-use Rattle.std.specs.List.{All, list_all}
+use Rattle.std.specs.List.{list_all}
 use Rattle.std.specs.Str.{is_utf8}
-use Rattle.std.specs.Bool.{IsTrue}
-use Rattle.std.specs.Bool.{Decides}
-use Rattle.std.proofs.lemmas.Bool.Decides.{Decides-and, Decides-by_and}
 use Rattle.serde_json.specs.Data.{Data}
 use Rattle.serde_json.specs.Find.{as_str}
 use Rattle.serde_json.specs.Read.{read}
 use Rattle.serde_json.specs.View.{view, items_view}
 use Rattle.serde_json.specs.declared.value.Value.{Value}
 use Rattle.text_scan.specs.Bytes.{is_blank}
-use Rattle.dl_syntax.specs.Names.{IsName, is_letter, is_name_byte}
-use Rattle.snapshot_reader.specs.Written.{Written, blank, malformed, writes, is_name, name_in}
+use Rattle.dl_syntax.specs.Names.{IsName, is_name}
+use Rattle.dl_syntax.proofs.NameTests.{name_decides}
+use Rattle.snapshot_reader.specs.Written.{Written, blank, malformed, writes, name_in}
 use Rattle.snapshot_reader.specs.Written.{fact_in, fact_of_items, facts_in, facts_of, json_writes}
 use Rattle.snapshot_reader.specs.Written.{◌>>=◌}
 
 -- ---- a name
-
-bytes_decide : (bytes : List ℕ)
-    → Decides (list_all is_name_byte bytes) (All (λ b. IsTrue (is_name_byte b)) bytes)
-bytes_decide = Decides-by_and is_name_byte (λ b.
-    IsTrue (is_name_byte b)) (list_all is_name_byte) (λ b. (λ h. h, λ h. h)) refl (λ _ _. refl)
-
-few_decide : (n : ℕ) → Decides (leb n 64) (n ≤ 64)
-few_decide n = (λ h. grind (arith, h), λ h. grind (arith, h))
-
-pub name_decides : (text : List ℕ) → Decides (is_name text) (IsName text)
-name_decides [] = (λ h. absurd cc, λ h. absurd h)
-name_decides (first ∷ rest) =
-    let few = length (first ∷ rest) in
-    let parts = Decides-and (is_letter first && list_all is_name_byte rest) (leb few 64)
-    (Decides-and (is_letter first) (list_all is_name_byte rest) (
-      λ h. h,
-      λ h.
-          h,
-    ) (bytes_decide rest)) (few_decide few) in
-    (λ h. let p = parts.0 h in (p.0.0, p.0.1, p.1), λ h. parts.1 ((h.0, h.1), h.2))
 
 pub named : (d : Data) (text : List ℕ) → Some text ≡ as_str d → IsName text → Some text ≡ name_in d
 named d text is name =

@@ -3,6 +3,8 @@ pub mod DistinctFacts
 pub mod GatheringLaws
 pub mod FactsSaid
 pub mod FactsGathered
+pub mod Causes
+pub mod ModelFacts
 pub mod LineWritten
 pub mod JsonFacts
 pub mod RefusedNames

@@ -15,24 +15,23 @@ use Rattle.text_scan.specs.Bytes.{is_blank}
 use Rattle.text_scan.specs.declared.TokenKind.TheVariants.{Name, Open, Close, Comma}
 use Rattle.text_scan.specs.Lexing.{Lexeme, lexed}
 use Rattle.text_scan.specs.Spelling.{IsSpelling, IsSpelled}
-use Rattle.text_scan.specs.Spelling.{IsName as IsNameToken}
 use Rattle.text_scan.proofs.Spellings.{are_spelled}
 use Rattle.dl_syntax.specs.declared.names.Kind.TheVariants.{Individual}
-use Rattle.dl_syntax.specs.Names.{IsName}
+use Rattle.dl_syntax.specs.Names.{IsName, is_name}
 use Rattle.dl_syntax.specs.Ontology.{Declared, is_declared}
 use Rattle.forms.specs.declared.StreamForm.{StreamForm}
 use Rattle.forms.specs.declared.StreamForm.TheVariants.{Text, Json}
 use Rattle.snapshot_reader.specs.Written.{Written, unary, binary, predicate, arguments, Line, blank}
 use Rattle.snapshot_reader.specs.Written.{malformed, writes, Symbol, token, at_fault, symbol}
 use Rattle.snapshot_reader.specs.Written.{last_symbol, symbols, facts_written, symbols_write}
-use Rattle.snapshot_reader.specs.Written.{is_name, name_in, fact_of_items, fact_in, facts_in}
+use Rattle.snapshot_reader.specs.Written.{name_in, fact_of_items, fact_in, facts_in}
 use Rattle.snapshot_reader.specs.Written.{facts_of, json_writes, line_writes, ◌>>=◌}
 use Rattle.snapshot_reader.specs.Said.{is_name_of, is_fitting, first_unknown, first_misused}
 use Rattle.snapshot_reader.specs.Said.{first_undeclared, most_facts, Cause, unknown, wrong_kind}
 use Rattle.snapshot_reader.specs.Said.{undeclared, too_many_facts, is_malformed, cause_of, fact_of}
 use Rattle.snapshot_reader.specs.Said.{distinct, refused, says, facts_say, line_says, said}
 use Rattle.snapshot_reader.specs.Laws.{CauseIsSpelled, RefusesNames}
-use Rattle.snapshot_reader.proofs.JsonFacts.{name_decides}
+use Rattle.dl_syntax.proofs.NameTests.{name_decides}
 
 -- a fact whose names are names
 abbrev AreNames : Written → Type 0
@@ -91,24 +90,20 @@ facts_named w found first later =
     each_mapped (All AreNames) (All AreNames) (λ facts. w ∷ facts) found (λ facts all.
     All-cons AreNames w facts first all) later
 
-same_name : (text : List ℕ) → IsNameToken text → IsName text
-same_name [] is = is
-same_name (first ∷ rest) is = is
-
 written_named : (xs : List Symbol) → All SymbolIsSpelled xs → Each (All AreNames) (facts_written xs)
 unfolding facts_written
 written_named [] all = All-nil AreNames
 written_named (token Name p ∷ token Open o ∷ token Name a ∷ token Close c ∷ rest) all =
     facts_named (unary p a) (facts_written rest)
-    (same_name p (all 0 at_fault (omega arith)), same_name a (all 2 at_fault (omega arith)))
+    (all 0 at_fault (omega arith), all 2 at_fault (omega arith))
     (written_named rest (All-drop SymbolIsSpelled 4
     (token Name p ∷ token Open o ∷ token Name a ∷ token Close c ∷ rest) all))
 written_named (token Name p ∷ token Open o ∷ token Name a ∷ token Comma e ∷ token Name b
     ∷ token Close c ∷ rest) all =
     facts_named (binary p a b) (facts_written rest) (
-      same_name p (all 0 at_fault (omega arith)),
-      same_name a (all 2 at_fault (omega arith)),
-      same_name b (all 4 at_fault (omega arith)),
+      all 0 at_fault (omega arith),
+      all 2 at_fault (omega arith),
+      all 4 at_fault (omega arith),
     )
     (written_named rest (All-drop SymbolIsSpelled 6
     (token Name p ∷ token Open o ∷ token Name a ∷ token Comma e ∷ token Name b ∷ token Close c

@@ -1,6 +1,10 @@
 -- The facts that a line says are of declared names, and none stands twice.
 use Rattle.std.proofs.Common.{◌≡◌, ℕ, ◌<◌, List, [], ◌∷◌, ◌++◌, Bool, true, false, cond, Option}
-use Rattle.std.proofs.Common.{None, Some, length, refl, subst}
+use Rattle.std.proofs.Common.{None, Some, length, refl, sym, ap, subst, ◌∙◌, ◌≤◌, ltb, arith}
+use Rattle.std.proofs.Common.{inl, inr}
+use Rattle.std.specs.Prelude.{◌⊎◌}
+use Rattle.std.proofs.lemmas.Bool.{cases_lt}
+use Rattle.std.proofs.lemmas.Bool.Decides.{Decides-ltb}
 use Rattle.std.specs.List.{All, fold, filter_map, cons_option, list_any}
 use Rattle.std.specs.Option.{option_map, option_map_or}
 use Rattle.std.specs.Str.{bytes_eq}
@@ -18,9 +22,12 @@ use Rattle.snapshot_reader.specs.Written.{Written, unary, binary, Line, blank, m
 use Rattle.snapshot_reader.specs.Written.{line_writes}
 use Rattle.snapshot_reader.specs.Said.{◌>>=◌, individual_of, fact_of, same_fact, with_fact}
 use Rattle.snapshot_reader.specs.Said.{distinct, Cause, refused, says, cause_of, facts_say}
+use Rattle.snapshot_reader.specs.Said.{first_unknown, first_misused, first_undeclared, first_cause}
+use Rattle.snapshot_reader.specs.Said.{most_facts, too_many_facts}
 use Rattle.snapshot_reader.specs.Said.{line_says, said}
 use Rattle.snapshot_reader.specs.Laws.{IsDeclaredIndividual, IsDeclared, SaidAreDeclared}
-use Rattle.snapshot_reader.specs.Laws.{SaidAreDistinct}
+use Rattle.snapshot_reader.specs.Laws.{SaidAreDistinct, SaidAreFew}
+use Rattle.snapshot_reader.proofs.ModelFacts.{distinct_few, mapped_few}
 use Rattle.snapshot_reader.proofs.FactsSaid.{facts_free, distinct_sound}
 
 -- a name's number is below the count of its kind
@@ -143,3 +150,46 @@ unfolding said
 said_are_distinct o form line facts is =
     line_has o IsSnapshot (λ ws. distinct_sound (filter_map (fact_of o) ws) (facts_free o ws))
     (line_writes form line) facts is
+
+-- ---- few facts
+
+few_count : (a b c : Option (List ℕ)) (count : ℕ) → first_cause a b c count ≡ None
+    → count ≤ most_facts
+few_count (Some x) b c count is = cc
+few_count None (Some x) c count is = cc
+few_count None None (Some x) count is = cc
+few_count None None None count is = go (cases_lt most_facts count)
+  where
+    go : (most_facts < count) ⊎ (count ≤ most_facts) → count ≤ most_facts
+    go (inr few) = few
+    go (inl many) = let test : ltb most_facts count ≡ true =
+        (Decides-ltb most_facts count).1 many in
+        let some : Some too_many_facts ≡ None =
+        ap (λ (b : Bool). cond b (Some too_many_facts) None) (sym test) ∙ is in cc
+
+uncaused : (c : Option Cause) (there facts : List Fact)
+    → option_map_or refused c (says there) ≡ says facts → c ≡ None
+uncaused None there facts is = refl
+uncaused (Some c) there facts is = cc
+
+few_said : (o : Declared) (ws : List Written) (facts : List Fact) → facts_say o ws ≡ says facts
+    → length facts ≤ most_facts
+unfolding facts_say
+few_said o ws facts is =
+    let found : List Fact = filter_map (fact_of o) ws in
+    let count : length ws ≤ most_facts =
+    few_count (first_unknown o ws) (first_misused o ws) (first_undeclared o ws) (length ws)
+    (uncaused (cause_of o ws) (distinct found) facts is) in
+    let same : length (distinct found) ≡ length facts =
+    ap (λ (fs : List Fact). length fs) (caused (cause_of o ws) (distinct found) facts is) in
+    omega (arith, count, same, distinct_few found, mapped_few (fact_of o) ws)
+
+line_few : (o : Declared) (l : Line) (facts : List Fact) → line_says o l ≡ says facts
+    → length facts ≤ most_facts
+line_few o blank facts is = cc
+line_few o malformed facts is = cc
+line_few o (writes ws) facts is = few_said o ws facts is
+
+pub said_are_few : SaidAreFew
+unfolding said
+said_are_few o form line facts is = line_few o (line_writes form line) facts is

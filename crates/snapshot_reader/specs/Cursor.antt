@@ -1,5 +1,7 @@
 -- What a line goes on with.
 use Rattle.std.specs.Prelude.{◌≡◌, ℕ, ◌<◌, ◌≤◌, List, [], ◌∷◌, ◌++◌, length, Option, Some, None}
+use Rattle.std.specs.Prelude.{map, Vec}
+use Rattle.std.specs.Global.{Global}
 use Rattle.std.specs.Option.{option_map}
 use Rattle.std.specs.Borrow.{Bor}
 use Rattle.text_scan.specs.declared.TokenKind.{TokenKind}
@@ -16,6 +18,10 @@ use Rattle.snapshot_reader.specs.Written.{facts_written}
 abbrev pub written_seen : lent.Written → Written
 written_seen (w.Unary p a) = unary p.now a.now
 written_seen (w.Binary p a b) = binary p.now a.now b.now
+
+-- facts, if there are any, in the same way
+abbrev pub facts_seen : Option (Vec lent.Written Global) → Option (List Written)
+facts_seen found = option_map (λ facts. map written_seen facts.items) found
 
 -- a name, if there is one
 abbrev pub name_seen : Option (Bor (List ℕ)) → Option (List ℕ)

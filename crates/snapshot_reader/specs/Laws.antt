@@ -1,5 +1,5 @@
 -- What holds of all that a line says and of each refusal.
-use Rattle.std.specs.Prelude.{◌≡◌, ℕ, ◌<◌, List, length}
+use Rattle.std.specs.Prelude.{◌≡◌, ℕ, ◌<◌, ◌≤◌, List, length}
 use Rattle.std.specs.List.{All}
 use Rattle.dl_syntax.specs.declared.facts.Element.{Element}
 use Rattle.dl_syntax.specs.declared.facts.Element.TheVariants.{Ind, Null}
@@ -10,7 +10,7 @@ use Rattle.dl_syntax.specs.Snapshots.{IsSnapshot}
 use Rattle.dl_syntax.specs.Ontology.{Declared}
 use Rattle.forms.specs.declared.StreamForm.{StreamForm}
 use Rattle.snapshot_reader.specs.Said.{Cause, is_malformed, unknown, wrong_kind, undeclared}
-use Rattle.snapshot_reader.specs.Said.{too_many_facts, refused, says, said}
+use Rattle.snapshot_reader.specs.Said.{too_many_facts, most_facts, refused, says, said}
 
 -- a cause with a name has one that is spelled as a name
 abbrev pub CauseIsSpelled : Cause → Type 0
@@ -45,3 +45,8 @@ SaidAreDeclared = (o : Declared) (form : StreamForm) (line : List ℕ) (facts : 
 abbrev pub SaidAreDistinct : Type 0
 SaidAreDistinct = (o : Declared) (form : StreamForm) (line : List ℕ) (facts : List Fact)
     → said o form line ≡ says facts → IsSnapshot facts
+
+-- what a line says has no more facts than a line writes, in each form
+abbrev pub SaidAreFew : Type 0
+SaidAreFew = (o : Declared) (form : StreamForm) (line : List ℕ) (facts : List Fact)
+    → said o form line ≡ says facts → length facts ≤ most_facts

@@ -1,11 +1,10 @@
 -- What a line says by the names of an ontology. Each cause is looked for over the whole line before
 -- the next one.
-use Rattle.std.specs.Prelude.{ℕ, Bool, false, ◌==◌, ◌&&◌, ◌||◌, not, nat_lt, if◌then◌else◌, List}
-use Rattle.std.specs.Prelude.{[], ◌∷◌, ◌++◌, length, map, fold, find, position, Option, Some, None}
+use Rattle.std.specs.Prelude.{ℕ, Bool, false, ◌==◌, ◌&&◌, not, nat_lt, if◌then◌else◌, List}
+use Rattle.std.specs.Prelude.{[], ◌∷◌, ◌++◌, length, map, fold, find, Option, Some, None}
 use Rattle.std.specs.Prelude.{is_some}
 use Rattle.std.specs.Option.{option_map, option_map_or, option_or}
 use Rattle.std.specs.List.{list_any, filter_map, flat_map}
-use Rattle.std.specs.Str.{bytes_eq}
 use Rattle.dl_syntax.specs.declared.names.Kind.{Kind}
 use Rattle.dl_syntax.specs.declared.names.Kind.TheVariants.{Concept, Role, Individual}
 use Rattle.dl_syntax.specs.declared.facts.Element.{Element}
@@ -50,12 +49,17 @@ first_undeclared o facts = find (λ name. not (is_name_of Individual o name))
 abbrev pub most_facts : ℕ
 most_facts = 65536
 
+-- the first cause, by the first name at fault for each, and by how many facts are written
+abbrev pub first_cause : Option (List ℕ) → Option (List ℕ) → Option (List ℕ) → ℕ → Option Cause
+first_cause unknown_name misused_name undeclared_name count =
+    option_or (option_map unknown unknown_name)
+    (option_or (option_map wrong_kind misused_name)
+    (option_or (option_map undeclared undeclared_name)
+    (if nat_lt most_facts count then Some too_many_facts else None)))
+
 abbrev pub cause_of : Declared → List Written → Option Cause
-cause_of o facts =
-    option_or (option_map unknown (first_unknown o facts))
-    (option_or (option_map wrong_kind (first_misused o facts))
-    (option_or (option_map undeclared (first_undeclared o facts))
-    (if nat_lt most_facts (length facts) then Some too_many_facts else None)))
+cause_of o facts = first_cause (first_unknown o facts) (first_misused o facts)
+    (first_undeclared o facts) (length facts)
 
 -- ---- what is said
 

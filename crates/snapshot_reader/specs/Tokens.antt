@@ -7,7 +7,8 @@ use Rattle.serde_json.specs.Data.{Data, null, boolean, number, string}
 use Rattle.serde_json.specs.Read.{number_of, of_json, max_depth}
 use Rattle.dl_syntax.specs.Ontology.{Declared}
 use Rattle.snapshot_reader.specs.declared.gathering.Gathered.{Gathered}
-use Rattle.snapshot_reader.specs.Written.{Written, unary, binary, is_name, facts_of, ◌>>=◌}
+use Rattle.dl_syntax.specs.Names.{is_name}
+use Rattle.snapshot_reader.specs.Written.{Written, unary, binary, facts_of, ◌>>=◌}
 use Rattle.snapshot_reader.specs.Gathering.{Gathers}
 
 -- ---- facts

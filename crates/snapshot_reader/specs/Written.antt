@@ -1,5 +1,5 @@
 -- The facts that a line writes.
-use Rattle.std.specs.Prelude.{ℕ, Bool, false, ◌&&◌, nat_le, List, [], ◌∷◌, ◌++◌, length, Option}
+use Rattle.std.specs.Prelude.{ℕ, List, [], ◌∷◌, ◌++◌, Option}
 use Rattle.std.specs.Prelude.{Some, None, codes, map, if◌then◌else◌}
 use Rattle.std.specs.Option.{option_map, option_map_or}
 use Rattle.std.specs.List.{list_all}
@@ -11,7 +11,7 @@ use Rattle.text_scan.specs.declared.TokenKind.{TokenKind}
 use Rattle.text_scan.specs.declared.TokenKind.TheVariants.{Name, Open, Close, Comma}
 use Rattle.text_scan.specs.Bytes.{is_blank}
 use Rattle.text_scan.specs.Lexing.{Lexeme, Lexed, lexed}
-use Rattle.dl_syntax.specs.Names.{is_letter, is_name_byte}
+use Rattle.dl_syntax.specs.Names.{is_name}
 use Rattle.forms.specs.declared.StreamForm.{StreamForm}
 use Rattle.forms.specs.declared.StreamForm.TheVariants.{Text, Json}
 
@@ -74,12 +74,6 @@ symbols_write (token Name word ∷ rest) =
 symbols_write _ = malformed
 
 -- ---- a line in JSON form
-
--- an ASCII letter or an underscore, then letters, digits, underscores and hyphens, 64 bytes at most
-abbrev pub is_name : List ℕ → Bool
-is_name [] = false
-is_name (first ∷ rest) = is_letter first && list_all is_name_byte rest && nat_le
-    (length (first ∷ rest)) 64
 
 -- the name that a text is
 abbrev pub name_in : Data → Option (List ℕ)

@@ -5,49 +5,17 @@ ghost use Rattle.dl_syntax.specs.Ontology.{Declared};
 ghost use Rattle.std.specs.List.{All};
 ghost use Rattle.dl_syntax.specs.Facts.{HasNoNull};
 ghost use Rattle.snapshot_reader.specs.Written as spec;
-ghost use Rattle.std.specs.Option.{option_or};
-ghost use Rattle.snapshot_reader.specs.Said.{first_unknown, first_misused, first_undeclared};
 ghost use Rattle.snapshot_reader.specs.Said.{facts_say};
 ghost use Rattle.snapshot_reader.specs.Answers.{Tells};
-ghost use Rattle.snapshot_reader.specs.Cursor.{written_seen, name_seen};
+ghost use Rattle.snapshot_reader.specs.Cursor.{written_seen};
 
+use crate::blaming::Blamed;
 use crate::distinct::distinct;
 use crate::facts::Written;
-use crate::names::{fact_of, misused, undeclared, unknown};
+use crate::names::fact_of;
 use crate::{Reading, SnapFault};
-use dl_syntax::{Fact, Memory, Name, Ontology, Snapshot};
+use dl_syntax::{Fact, Memory, Ontology, Snapshot};
 use std::alloc::Global;
-
-/// The most facts that a line writes, repeats counted.
-pub(crate) const FACT_LIMIT: usize = 65_536;
-
-/// The first name at fault for each cause.
-#[derive(Clone, Copy, Debug)]
-pub(crate) struct Blamed<'a> {
-    unknown: Option<&'a [u8]>,
-    misused: Option<&'a [u8]>,
-    undeclared: Option<&'a [u8]>,
-}
-
-impl<'a> Blamed<'a> {
-    /// The first names at fault with one more fact.
-    #[cold]
-    fn with(self, ontology: &Ontology, written: &Written<'a>) -> Blamed<'a>
-        ensures unknown { name_seen result.unknown ≡ option_or (name_seen self.entry.unknown)
-            (first_unknown ontology.now (written_seen written.now ∷ [])) }
-        ensures misused { name_seen result.misused ≡ option_or (name_seen self.entry.misused)
-            (first_misused ontology.now (written_seen written.now ∷ [])) }
-        ensures undeclared { name_seen result.undeclared
-            ≡ option_or (name_seen self.entry.undeclared)
-            (first_undeclared ontology.now (written_seen written.now ∷ [])) }
-    {
-        Blamed {
-            unknown: self.unknown.or(unknown(ontology, written)),
-            misused: self.misused.or(misused(ontology, written)),
-            undeclared: self.undeclared.or(undeclared(ontology, written)),
-        }
-    }
-}
 
 /// What is known of a line behind its first facts.
 #[derive(Drop)]
@@ -65,11 +33,7 @@ impl<'a> Gathered<'a> {
         ensures { (o : Declared) → Gathers o [] result }
     {
         Gathered {
-            blamed: Blamed {
-                unknown: None,
-                misused: None,
-                undeclared: None,
-            },
+            blamed: Blamed::nothing(),
             count: 0,
             facts: Vec::new(alloc),
         }
@@ -99,19 +63,12 @@ impl<'a> Gathered<'a> {
         ensures { (o : Declared) (done : List spec.Written) → Gathers o done self.entry
             → Tells result (facts_say o done) }
     {
-        if let Some(name) = self.blamed.unknown {
-            return Err(SnapFault::Unknown(Name::new(alloc, name)?));
+        match self.blamed.fault(alloc, self.count) {
+            Err(fault) => Err(fault),
+            Ok(()) => {
+                let facts = distinct(alloc, self.facts)?;
+                Ok(Reading::Facts(Snapshot::new(facts)))
+            }
         }
-        if let Some(name) = self.blamed.misused {
-            return Err(SnapFault::WrongKind(Name::new(alloc, name)?));
-        }
-        if let Some(name) = self.blamed.undeclared {
-            return Err(SnapFault::Undeclared(Name::new(alloc, name)?));
-        }
-        if self.count > FACT_LIMIT {
-            return Err(SnapFault::TooManyFacts);
-        }
-        let facts = distinct(alloc, self.facts)?;
-        Ok(Reading::Facts(Snapshot::new(facts)))
     }
 }

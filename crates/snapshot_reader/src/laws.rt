@@ -1,5 +1,6 @@
 //! Laws of what a line says, each the contract of a function with nothing to do.
 ghost use Rattle.snapshot_reader.specs.Laws.{RefusesNames, SaidAreDeclared, SaidAreDistinct};
+ghost use Rattle.snapshot_reader.specs.Laws.{SaidAreFew};
 
 /// A line that is refused for a name is refused for what is spelled as a name.
 pub fn refuses_names()
@@ -14,4 +15,9 @@ pub fn said_are_declared()
 /// Of the facts that a line says none stands twice, and none holds a null.
 pub fn said_are_distinct()
     ensures { SaidAreDistinct }
+{}
+
+/// A line says no more facts than it may write.
+pub fn said_are_few()
+    ensures { SaidAreFew }
 {}

@@ -3,17 +3,21 @@
 
 ghost use Rattle.std.specs.Prelude.{◌≡◌};
 
+mod blaming;
 mod distinct;
 mod facts;
+mod further;
 mod gathering;
 mod json_lines;
 pub mod laws;
 mod lines;
+mod model_lines;
 mod names;
 mod plain_lines;
 
 use dl_syntax::{Memory, Name, Snapshot};
 pub use lines::read_snapshot;
+pub use model_lines::{is_model_line, read_model};
 
 /// What a line gives.
 #[derive(Debug, Drop)]
@@ -34,7 +38,7 @@ pub enum SnapFault {
     Unknown(Name),
     /// A predicate isn't a concept with one argument or a role with two.
     WrongKind(Name),
-    /// An argument is no individual.
+    /// An argument is no individual; in a model, it is the name of a concept or of a role.
     Undeclared(Name),
     /// More than 65,536 facts are written, repeats counted.
     TooManyFacts,

@@ -4,6 +4,7 @@ ghost use Rattle.std.specs.Prelude.{◌≡◌, ◌∷◌, [], find, not};
 ghost use Rattle.dl_syntax.specs.declared.names.Kind.TheVariants.{Individual};
 ghost use Rattle.snapshot_reader.specs.Said.{is_name_of, is_fitting, first_unknown, first_misused};
 ghost use Rattle.snapshot_reader.specs.Said.{first_undeclared, individual_of, fact_of};
+ghost use Rattle.snapshot_reader.specs.ModelLines.{names_no_element, first_misplaced};
 ghost use Rattle.snapshot_reader.specs.Cursor.{written_seen, name_seen};
 
 use crate::facts::Written;
@@ -97,6 +98,30 @@ pub(crate) fn undeclared<'a>(ontology: &Ontology, written: &Written<'a>) -> Opti
         Written::Binary(_, first, second) => match no_individual(ontology, first) {
             Some(name) => Some(name),
             None => no_individual(ontology, second),
+        },
+    }
+}
+
+/// The name, if it is declared as a concept or as a role.
+fn no_element<'a>(ontology: &Ontology, name: &'a [u8]) -> Option<&'a [u8]>
+    ensures { name_seen result ≡ find (names_no_element ontology.now) (name.now ∷ []) }
+{
+    if is_name_of(ontology, Kind::Concept, name) || is_name_of(ontology, Kind::Role, name) {
+        Some(name)
+    } else {
+        None
+    }
+}
+
+/// The first argument that is declared as a concept or as a role.
+pub(crate) fn misplaced<'a>(ontology: &Ontology, written: &Written<'a>) -> Option<&'a [u8]>
+    ensures { name_seen result ≡ first_misplaced ontology.now (written_seen written.now ∷ []) }
+{
+    match written {
+        Written::Unary(_, argument) => no_element(ontology, argument),
+        Written::Binary(_, first, second) => match no_element(ontology, first) {
+            Some(name) => Some(name),
+            None => no_element(ontology, second),
         },
     }
 }

@@ -7,15 +7,16 @@ ghost use Rattle.serde_json.specs.Data.{Data, Num};
 ghost use Rattle.serde_json.specs.Read.{number_of};
 ghost use Rattle.std.specs.Prelude.{Some};
 ghost use Rattle.snapshot_reader.specs.Written as spec;
-ghost use Rattle.snapshot_reader.specs.Written.{is_name};
+ghost use Rattle.dl_syntax.specs.Names.{is_name};
 ghost use Rattle.snapshot_reader.specs.Cursor.{written_seen};
 ghost use Rattle.snapshot_reader.specs.Gathering.{Gathers};
 ghost use Rattle.snapshot_reader.specs.Tokens.{fact_before, facts_before, IsSpelled, value_in};
 ghost use Rattle.snapshot_reader.specs.Tokens.{Passed, IsPassed, members_before, stop_token};
 ghost use Rattle.snapshot_reader.specs.Tokens.{GatheredAll};
 
+use crate::blaming::FACT_LIMIT;
 use crate::facts::Written;
-use crate::gathering::{FACT_LIMIT, Gathered};
+use crate::gathering::Gathered;
 use dl_syntax::{Memory, Ontology, is_name};
 use fast_float::Numeral;
 use json::{Reader, Token};

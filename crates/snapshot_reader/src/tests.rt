@@ -1,6 +1,6 @@
 //! Tests of the public calls, and the worked examples.
 
-use crate::{Reading, SnapFault, read_snapshot};
+use crate::{Reading, SnapFault, is_model_line, read_model, read_snapshot};
 use dl_syntax::{ConceptId, Element, Fact, IndId, Kind, Memory, Ontology, RoleId, is_name};
 use forms::StreamForm;
 use std::alloc::Global;
@@ -221,6 +221,48 @@ fn refuses_what_is_no_list_of_facts(rt: HostRuntime) -> Result<(), Fail> {
                 b""
             )
         );
+    }
+    Ok(())
+}
+
+#[test]
+fn numbers_further_elements(rt: HostRuntime) -> Result<(), Fail> {
+    let ontology = servers(rt.alloc())?;
+    let line = b" model runs(v,s2) Failed(some) runs(s2,u)runs(v , s2) # a world";
+    assert!(rt; is_model_line(line));
+    let Ok(model) = read_model(rt.alloc(), line, &ontology) else {
+        return Err("no model")?;
+    };
+    let second = Element::Ind(IndId(1));
+    let facts = [
+        Fact::Role(RoleId(0), Element::Ind(IndId(2)), second),
+        Fact::Concept(ConceptId(0), Element::Ind(IndId(3))),
+        Fact::Role(RoleId(0), second, Element::Ind(IndId(4))),
+    ];
+    assert_eq!(rt; model.facts(), facts.as_slice());
+    Ok(())
+}
+
+#[test]
+fn names_the_first_cause_in_models(rt: HostRuntime) -> Result<(), Fail> {
+    let ontology = servers(rt.alloc())?;
+    let cases: [(&[u8], &str, &[u8]); 5] = [
+        (b"model Failed(u", "malformed", b""),
+        (b"model Nope(runs)", "unknown", b"Nope"),
+        (b"model runs(u)", "wrong-kind", b"runs"),
+        (
+            b"model Failed(u) runs(u,Failed) Failed(runs)",
+            "undeclared",
+            b"Failed",
+        ),
+        (b"snap Failed(s1)", "malformed", b""),
+    ];
+    for (line, cause, name) in cases {
+        let Err(fault) = read_model(rt.alloc(), line, &ontology) else {
+            return Err("no fault")?;
+        };
+        let (met, at) = told(&fault);
+        assert!(rt; met == cause && at == name);
     }
     Ok(())
 }

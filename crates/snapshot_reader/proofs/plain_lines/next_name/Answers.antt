@@ -1,6 +1,6 @@
 use Rattle.std.proofs.Common.{◌≡◌, ◌∷◌, arith, rules}
 use Rattle.json.specs.Token.{string}
-use Rattle.snapshot_reader.proofs.JsonFacts.{name_decides}
+use Rattle.dl_syntax.proofs.NameTests.{name_decides}
 use Rattle.snapshot_reader.proofs.plain_lines.next_name.Goals as goal
 
 pub returns-then-is_name : goal.returns-then-is_name
