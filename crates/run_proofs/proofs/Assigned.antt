@@ -19,9 +19,10 @@ use Rattle.dl_syntax.specs.declared.queries.Atom.TheVariants as atom
 use Rattle.dl_syntax.specs.declared.queries.Cq.{Cq}
 use Rattle.dl_syntax.specs.Queries.{HasTerm, IsBound}
 use Rattle.dl_syntax.specs.Match.{Assignment, Match, term_at, atom_at}
-use Rattle.dl_syntax.proofs.AllByCons.{Contains-none, Contains-first, Contains-later}
-use Rattle.dl_syntax.proofs.AllByCons.{Contains-cons_cases, All-from_contains, AllPairs-head}
-use Rattle.dl_syntax.proofs.AllByCons.{AllPairs-tail}
+use Rattle.list_lemmas.proofs.Elements.{Contains-none}
+use Rattle.list_lemmas.proofs.Elements.{Contains-cons_cases, All-from_contains, AllPairs-head}
+use Rattle.list_lemmas.proofs.Elements.{AllPairs-tail}
+use Rattle.list_lemmas.proofs.Maps.{map_same}
 use Rattle.run_proofs.specs.Assigned.{assigned}
 use Rattle.run_proofs.specs.Matching.{AreVariables, IsMatch}
 use Rattle.run_proofs.proofs.Numbers.{Rises, variables_unique}
@@ -80,13 +81,6 @@ images_at f g (z ∷ xs) (w ∷ ys) zero x y within same = cc
 images_at f g (z ∷ xs) (w ∷ ys) (suc k) x y within same =
     images_at f g xs ys k x y (omega arith) (cc)
 
-map_alike : {X Y : Type 0} (f g : X → Y) (xs : List X) → ((x : X) → Contains xs x → f x ≡ g x)
-    → map f xs ≡ map g xs
-map_alike f g [] alike = refl
-map_alike {X} {Y} f g (x ∷ xs) alike =
-    ap (λ (y : Y). y ∷ map f xs) (alike x (Contains-first x xs)) ∙ ap (λ (ys : List Y).
-    g x ∷ ys) (map_alike f g xs (λ z there. alike z (Contains-later x xs z there)))
-
 -- the elements are given to variables that are listed once
 pub gives : (variables : List ℕ) (elements : List Element) → Rises variables
     → length variables ≡ length elements → map (assigned variables elements) variables ≡ elements
@@ -97,7 +91,7 @@ gives (w ∷ variables) (e ∷ elements) rises same =
     ap (λ (x : Element). x ∷ map (assigned (w ∷ variables) (e ∷ elements)) variables)
     (ap (λ (test : Bool). cond test e (assigned variables elements w)) (test_same w))
     ∙ ap (λ (xs : List Element). e ∷ xs)
-    (map_alike (assigned (w ∷ variables) (e ∷ elements)) (assigned variables elements) variables
+    (map_same (assigned (w ∷ variables) (e ∷ elements)) (assigned variables elements) variables
     passed ∙ gives variables elements (AllPairs-tail (λ v w. v < w) w variables rises)
     (omega arith))
   where
@@ -161,7 +155,7 @@ module _ (q : Cq) (run : List Fact) (row : List IndId) (elements : List Element)
   pub head_forced : All (IsBound q.body) q.head → IsMatch q run row elements
       → map (term_at (assigned variables elements)) q.head ≡ map ind_element row
   head_forced bound m =
-      map_alike (term_at (assigned variables elements)) (term_at m.assignment) q.head
+      map_same (term_at (assigned variables elements)) (term_at m.assignment) q.head
       (λ x there. term_alike (assigned variables elements) m.assignment x (λ v same.
       sym (alike_bound m v (subst (IsBound q.body) same
       (All-contains (IsBound q.body) q.head x bound there)))))

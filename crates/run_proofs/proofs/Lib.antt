@@ -8,3 +8,4 @@ pub mod Words
 pub mod OneReading
 pub mod Places
 pub mod Names
+pub mod PrintedTexts

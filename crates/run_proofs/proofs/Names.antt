@@ -3,7 +3,7 @@ use Rattle.std.proofs.Common.{◌≡◌, ◌<◌, ◌++◌, ◌∷◌, ℕ, true
 use Rattle.std.specs.List.{All}
 use Rattle.dl_syntax.specs.Names.{IsName, IsDeclarable}
 use Rattle.dl_syntax.specs.Ontology.{Declared, IsOntology}
-use Rattle.dl_syntax.proofs.AllByCons.{All-back}
+use Rattle.list_lemmas.proofs.Elements.{All-back}
 
 pub no_name_is_marked : (o : Declared) (i : ℕ) (rest : List ℕ) → IsOntology o
     → i < length o.individuals → get_or o.individuals i [] ≡ 42 ∷ rest → ⊥

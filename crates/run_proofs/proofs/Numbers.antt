@@ -10,10 +10,10 @@ use Rattle.std.proofs.lemmas.List.Elements.{Contains-append_cases}
 use Rattle.dl_syntax.specs.declared.queries.Term.TheVariants.{Var}
 use Rattle.dl_syntax.specs.declared.queries.Atom.{Atom}
 use Rattle.dl_syntax.specs.Queries.{HasTerm}
-use Rattle.dl_syntax.proofs.AllByCons.{Contains-none, Contains-first, Contains-later}
-use Rattle.dl_syntax.proofs.AllByCons.{Contains-cons_cases, Contains-single, All-from_contains}
-use Rattle.dl_syntax.proofs.AllByCons.{AllPairs-nil, AllPairs-head, AllPairs-tail}
-use Rattle.dl_syntax.proofs.Rising.{rising_unique}
+use Rattle.list_lemmas.proofs.Elements.{Contains-none, Contains-first, Contains-later}
+use Rattle.list_lemmas.proofs.Elements.{Contains-cons_cases, Contains-single, All-from_contains}
+use Rattle.list_lemmas.proofs.Elements.{AllPairs-nil, AllPairs-head, AllPairs-tail}
+use Rattle.list_lemmas.proofs.Rising.{rising_unique}
 use Rattle.run_proofs.specs.Matching.{AreVariables}
 
 abbrev pub Rises : List ℕ → Type 0

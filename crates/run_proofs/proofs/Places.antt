@@ -19,14 +19,15 @@ something_made (inclusion.Concepts b c) f place made (e, is, whole) none = cc
 something_made (inclusion.Roles r s) f place made (x, y, is, whole) none = cc
 something_made (inclusion.Qualified b r c) f place made (e, is, whole) none = cc
 
-one_more : (inclusions : List Inclusion) (run : List Fact) (steps : List ProofStep) (s : ProofStep)
+pub one_more : (inclusions : List Inclusion) (run : List Fact) (steps : List ProofStep)
+    (s : ProofStep)
     → run_after inclusions run (steps ++ s ∷ [])
     ≡ run_after inclusions run steps ++ made_in inclusions (run_after inclusions run steps) s
 one_more inclusions run [] s = refl
 one_more inclusions run (first ∷ steps) s =
     one_more inclusions (run ++ made_in inclusions run first) steps s
 
-all_and_one : (inclusions : List Inclusion) (run : List Fact) (steps : List ProofStep)
+pub all_and_one : (inclusions : List Inclusion) (run : List Fact) (steps : List ProofStep)
     (s : ProofStep) → AllMake inclusions run steps
     → made_in inclusions (run_after inclusions run steps) s ≢ []
     → AllMake inclusions run (steps ++ s ∷ [])

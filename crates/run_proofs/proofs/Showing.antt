@@ -9,7 +9,7 @@ use Rattle.dl_syntax.specs.declared.ontology.Clash.TheVariants as clash
 use Rattle.dl_syntax.specs.declared.queries.Cq.{Cq}
 use Rattle.dl_syntax.specs.Ontology.{Declared}
 use Rattle.dl_syntax.specs.Chase.{Run, Meets, start}
-use Rattle.dl_syntax.proofs.Growth.{Contains-at}
+use Rattle.list_lemmas.proofs.Elements.{Contains-at}
 use Rattle.tcq_syntax.specs.Tcq.{Tcq}
 use Rattle.run_proofs.specs.declared.proof.Goal.{Goal}
 use Rattle.run_proofs.specs.declared.proof.Goal.TheVariants as goal

@@ -3,4 +3,5 @@ pub mod Matching
 pub mod Assigned
 pub mod Shows
 pub mod Texts
+pub mod Writable
 pub mod Laws

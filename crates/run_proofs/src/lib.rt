@@ -10,6 +10,7 @@ mod checking;
 mod elements;
 pub mod laws;
 mod matching;
+mod printing;
 mod proof;
 mod reading;
 #[cfg(test)]
@@ -19,6 +20,8 @@ mod writing;
 
 pub use checking::verify;
 pub use elements::read_element;
+pub use printing::{append_ending, append_snapshot};
 pub use proof::{Ending, Goal, Proof, ProofStep};
 pub use reading::{read_clash, read_places, read_step};
+pub use variables::variables_of;
 pub use writing::{append_clash, append_places, append_step};

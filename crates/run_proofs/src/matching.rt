@@ -9,7 +9,7 @@ ghost use Rattle.dl_syntax.specs.Match.{Match, term_at, atom_at};
 ghost use Rattle.run_proofs.specs.Assigned.{assigned};
 ghost use Rattle.run_proofs.specs.Matching.{AreVariables, IsMatch, AreSides, MeetsAt};
 
-use crate::variables::variables;
+use crate::variables::variables_of;
 use dl_syntax::{
     Atom, Basic, Clash, Cq, Element, Fact, IndId, Memory, Role, Row, Term, element_in, pair_in,
 };
@@ -139,7 +139,7 @@ pub(crate) fn is_match(
     requires { All (IsBound cq.now.body) cq.now.head }
     ensures { IfOk result (λ yes. IsTrue yes ↔ IsMatch cq.now run.now row.now elements.now) }
 {
-    let variables = variables(alloc, cq.body.as_slice())?;
+    let variables = variables_of(alloc, cq.body.as_slice())?;
     Ok(is_match_of(cq, variables.as_slice(), elements, run, row.places()))
 }
 

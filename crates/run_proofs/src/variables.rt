@@ -77,7 +77,7 @@ fn add_atom(numbers: &mut Vec<u16>, atom: &Atom) -> Result<(), Memory>
 }
 
 /// The variables of the body in rising order.
-pub(crate) fn variables(alloc: Global, body: &[Atom]) -> Result<Vec<u16>, Memory>
+pub fn variables_of(alloc: Global, body: &[Atom]) -> Result<Vec<u16>, Memory>
     ensures { IfOk result (λ numbers. AreVariables body.now numbers.items) }
 {
     let mut numbers = Vec::new(alloc);

@@ -8,7 +8,7 @@ use dl_syntax::Memory;
 use itoa::Buffer;
 
 /// Appends the decimal digits of a number.
-fn append_number(out: &mut Vec<u8>, number: u32) -> Result<(), Memory>
+pub(crate) fn append_number(out: &mut Vec<u8>, number: u32) -> Result<(), Memory>
     ensures { OnOk result (out.new.items ≡ out.old.items ++ decimal number) }
 {
     let mut buffer = Buffer::new();

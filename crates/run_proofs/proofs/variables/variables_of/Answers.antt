@@ -1,5 +1,5 @@
 use Rattle.run_proofs.proofs.Numbers.{one_collected, all_collected}
-use Rattle.run_proofs.proofs.variables.variables.Goals as goal
+use Rattle.run_proofs.proofs.variables.variables_of.Goals as goal
 
 pub loop-atom-preserved : goal.loop-atom-preserved
 loop-atom-preserved c =

@@ -1,0 +1,11 @@
+pub mod Extensions
+pub mod Matched
+pub mod Growing
+pub mod Linked
+pub mod Back
+pub mod Origins
+pub mod Keeping
+pub mod Members
+pub mod Walking
+pub mod Shown
+pub mod Serves

@@ -1,0 +1,15 @@
+//! The search for proofs: why a row is a certain answer, or why a snapshot contradicts an ontology.
+#![tactic(auto)]
+
+mod answer;
+mod bindings;
+mod closure;
+mod fault;
+mod made;
+mod matching;
+mod reached;
+mod search;
+mod walk;
+
+pub use answer::Search;
+pub use fault::ProofFault;
