@@ -10,10 +10,10 @@ use Rattle.stream_report.specs.declared.ending.Ending.TheVariants.{WriteFault, M
 use Rattle.stream_report.specs.Ends.{StreamEnds, TextEnds}
 use Rattle.stream_report.specs.Outside.{Ports, Outside}
 use Rattle.stream_report.specs.Told.{Manner}
-use Rattle.monitor_run.specs.declared.ending.Refusal.{Refusal}
+use Rattle.job_sources.specs.declared.refusal.Refusal.{Refusal}
 use Rattle.monitor_run.specs.Ends.{status_of}
-use Rattle.monitor_run.specs.Containments.{refuses_no_leaf}
-use Rattle.monitor_run.specs.Sources.{nothing_more}
+use Rattle.containment_text.specs.Containments.{refuses_no_leaf}
+use Rattle.job_sources.specs.Sources.{nothing_more}
 use Rattle.monitor_run.specs.Jobs.{asked_by}
 use Rattle.monitor_run.specs.Laws.{IsDone, IsGood, IsGoodRewriting, IsGoodContainment, IsGoodDrill}
 use Rattle.monitor_run.specs.Laws.{Completeness, RewritingCompleteness, ContainmentCompleteness}

@@ -8,10 +8,10 @@ use Rattle.stream_report.specs.declared.ending.Ending.TheVariants.{Done, Usage, 
 use Rattle.stream_report.specs.declared.ending.Ending.TheVariants.{WriteFault, Memory, StreamLimit}
 use Rattle.stream_report.specs.Outside.{FilesTold, Outside}
 use Rattle.stream_report.proofs.TextEndings.{text_leaves}
-use Rattle.monitor_run.specs.declared.ending.Refusal.{Refusal}
-use Rattle.monitor_run.specs.declared.ending.Refusal.TheVariants.{BadOntology, TooManyRewritings}
-use Rattle.monitor_run.specs.declared.ending.Refusal.TheVariants.{BadQueries, NotALeaf}
-use Rattle.monitor_run.specs.declared.ending.Status.TheVariants as status
+use Rattle.job_sources.specs.declared.refusal.Refusal.{Refusal}
+use Rattle.job_sources.specs.declared.refusal.Refusal.TheVariants.{BadOntology, TooManyRewritings}
+use Rattle.job_sources.specs.declared.refusal.Refusal.TheVariants.{BadQueries, NotALeaf}
+use Rattle.monitor_run.specs.declared.status.Status.TheVariants as status
 use Rattle.monitor_run.specs.Ends.{status_of, status_of_refusal}
 use Rattle.monitor_run.specs.Jobs.{asked_by}
 use Rattle.monitor_run.specs.Laws.{DrillLeaves, RewritingLeaves, ContainmentLeaves, UsageLeaves}

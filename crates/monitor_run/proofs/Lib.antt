@@ -1,26 +1,5 @@
-mod Arrangements
-mod Rendering
-mod ToldLaws
-mod Sayings
-mod Sizes
-mod Spelled
-mod MadeStream
-mod ReplyLaws
-mod QueryTexts
-mod Texts
-mod Counts
-mod Gathering
-mod SourceTexts
-mod SortedTexts
-mod OneText
-mod PairTexts
-mod OnePairs
-mod LeafQueries
-pub mod Openings
 mod RunLaws
-mod Rehearsals
 mod GoodSources
-mod OneReport
 mod Completing
 mod Leaving
 mod Limits

@@ -14,21 +14,23 @@ use Rattle.stream_report.specs.Ends.{Streamed}
 use Rattle.stream_report.specs.Outside.{FilesTold, Outside}
 use Rattle.stream_report.specs.Told.{Part}
 use Rattle.stream_report.proofs.ReportLaws.{limit_is_exact}
-use Rattle.monitor_run.specs.declared.ending.Refusal.{Refusal}
-use Rattle.monitor_run.specs.declared.ending.Refusal.TheVariants.{BadOntology, TooManyRewritings}
-use Rattle.monitor_run.specs.declared.ending.Refusal.TheVariants.{BadQueries, NotALeaf}
-use Rattle.monitor_run.specs.declared.ending.Status.TheVariants as status
+use Rattle.job_sources.specs.declared.refusal.Refusal.{Refusal}
+use Rattle.job_sources.specs.declared.refusal.Refusal.TheVariants.{BadOntology, TooManyRewritings}
+use Rattle.job_sources.specs.declared.refusal.Refusal.TheVariants.{BadQueries, NotALeaf}
+use Rattle.monitor_run.specs.declared.status.Status.TheVariants as status
 use Rattle.monitor_run.specs.Ends.{status_of, status_of_refusal}
-use Rattle.monitor_run.specs.Jobs.{FileNames, asked_by}
+use Rattle.job_sources.specs.FileNames.{FileNames}
+use Rattle.monitor_run.specs.Jobs.{asked_by}
 use Rattle.monitor_run.specs.Laws.{Watches, LimitComesExactly}
-use Rattle.monitor_run.specs.Opening.{HasText}
-use Rattle.monitor_run.specs.Report.{start, watching}
+use Rattle.job_sources.specs.Opening.{HasText}
+use Rattle.watch_report.specs.Report.{start, watching}
 use Rattle.monitor_run.specs.Running.{AskedEnds}
-use Rattle.monitor_run.specs.Sources.{nothing_more, OpeningFails, FilesSay, FilesUnread}
-use Rattle.monitor_run.specs.Task.{Task, options_of}
+use Rattle.job_sources.specs.Sources.{nothing_more, OpeningFails, FilesSay, FilesUnread}
+use Rattle.watch_report.specs.Task.{Task}
+use Rattle.monitor_run.specs.Jobs.{options_of}
 use Rattle.monitor_run.proofs.Completing.{by_meaning}
-use Rattle.monitor_run.proofs.GoodSources.{one_text, same_setting}
-use Rattle.monitor_run.proofs.OneReport.{watching_once}
+use Rattle.job_sources.proofs.OneSetting.{one_text, same_setting}
+use Rattle.watch_report.proofs.OneReport.{watching_once}
 
 no_refusal_status : (refusal : Refusal) → status_of_refusal refusal ≡ status.StreamLimit → ⊥
 no_refusal_status (BadOntology line kind) is = cc

@@ -10,8 +10,8 @@ use Rattle.stream_report.specs.declared.ending.Ending.{Ending}
 use Rattle.stream_report.specs.declared.ending.Ending.TheVariants.{Done, Usage, Refused, ReadFault}
 use Rattle.stream_report.specs.declared.ending.Ending.TheVariants.{WriteFault, Memory, StreamLimit}
 use Rattle.stream_report.specs.Outside.{SinkTold, Outside}
-use Rattle.stream_report.specs.Writing.{Writes}
-use Rattle.monitor_run.specs.declared.ending.Refusal.{Refusal}
+use Rattle.edge_io.specs.Writing.{Writes}
+use Rattle.job_sources.specs.declared.refusal.Refusal.{Refusal}
 use Rattle.monitor_run.specs.Jobs.{asked_by}
 use Rattle.monitor_run.specs.Running.{AskedEnds, RunEnds, Says}
 

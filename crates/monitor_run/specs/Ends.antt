@@ -7,12 +7,12 @@ use Rattle.tcq_reader.specs.declared.faults.QueryKind.TheVariants as query_kind
 use Rattle.stream_report.specs.declared.ending.Ending.{Ending}
 use Rattle.stream_report.specs.declared.ending.Ending.TheVariants.{Done, Usage, Refused, ReadFault}
 use Rattle.stream_report.specs.declared.ending.Ending.TheVariants.{WriteFault, Memory, StreamLimit}
-use Rattle.monitor_run.specs.declared.ending.Refusal.{Refusal}
-use Rattle.monitor_run.specs.declared.ending.Refusal.TheVariants.{BadOntology, TooManyRewritings}
-use Rattle.monitor_run.specs.declared.ending.Refusal.TheVariants.{BadQueries, NotALeaf}
-use Rattle.monitor_run.specs.declared.ending.Status.{Status}
-use Rattle.monitor_run.specs.Names.{name_in}
-use Rattle.monitor_run.specs.declared.ending.Status.TheVariants as status
+use Rattle.job_sources.specs.declared.refusal.Refusal.{Refusal}
+use Rattle.job_sources.specs.declared.refusal.Refusal.TheVariants.{BadOntology, TooManyRewritings}
+use Rattle.job_sources.specs.declared.refusal.Refusal.TheVariants.{BadQueries, NotALeaf}
+use Rattle.monitor_run.specs.declared.status.Status.{Status}
+use Rattle.job_sources.specs.Names.{name_in}
+use Rattle.monitor_run.specs.declared.status.Status.TheVariants as status
 
 -- the status of a run whose sources were refused
 abbrev pub status_of_refusal : Refusal → Status

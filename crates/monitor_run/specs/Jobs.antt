@@ -1,20 +1,15 @@
 -- What the words ask for: a job on files, or a drill.
 use Rattle.std.specs.Prelude.{ℕ, List}
-use Rattle.command_words.specs.Meanings.{Meaning}
+use Rattle.command_words.specs.Meanings.{Meaning, Watching}
 use Rattle.command_words.specs.Meanings as meaning
 use Rattle.monitor_run.specs.declared.jobs.Job.{Job}
 use Rattle.monitor_run.specs.declared.jobs.Job.TheVariants.{Watch, Rewrite, Contain}
-use Rattle.monitor_run.specs.declared.jobs.Names.{Names}
-use Rattle.monitor_run.specs.Task.{options_of}
+use Rattle.job_sources.specs.FileNames.{FileNames}
+use Rattle.watch_report.specs.declared.options.Options.{Options}
 
--- the names of the files of the ontology and of the queries
-pub record FileNames : Type 0 where
-  pub ontology : List ℕ
-  pub queries : List ℕ
-
--- the names without where they lie in memory
-abbrev pub file_names : Names → FileNames
-file_names names = record { ontology = names.ontology.now; queries = names.queries.now }
+-- the options that the words of a watch mean
+abbrev pub options_of : Watching → Options
+options_of w = record { form = w.form; report = w.report; sizes = w.sizes }
 
 -- a job on the files of these names, or a drill of this seed and so many snapshots
 pub data Asked : Type 0 where

@@ -7,16 +7,17 @@ use Rattle.command_words.specs.Meanings.{Watching, watch, rewrite, contain, dril
 use Rattle.monitor_core.specs.Setting.{Setting}
 use Rattle.stream_report.specs.Told.{Part}
 use Rattle.stream_report.specs.Outside.{SinkTold, Outside}
-use Rattle.monitor_run.specs.declared.ending.Status.{Status}
-use Rattle.monitor_run.specs.declared.ending.Status.TheVariants.{Done, Usage, BadOntology}
-use Rattle.monitor_run.specs.declared.ending.Status.TheVariants.{BadQueries, Memory, StreamLimit}
-use Rattle.monitor_run.specs.declared.ending.Refusal.{Refusal}
-use Rattle.monitor_run.specs.Containments.{refuses_no_leaf}
-use Rattle.monitor_run.specs.Jobs.{FileNames}
-use Rattle.monitor_run.specs.Report.{start, watching}
-use Rattle.monitor_run.specs.Task.{options_of}
-use Rattle.monitor_run.specs.Running.{MadeSay, Ran}
-use Rattle.monitor_run.specs.Sources.{nothing_more, Opens, FilesSay}
+use Rattle.monitor_run.specs.declared.status.Status.{Status}
+use Rattle.monitor_run.specs.declared.status.Status.TheVariants.{Done, Usage, BadOntology}
+use Rattle.monitor_run.specs.declared.status.Status.TheVariants.{BadQueries, Memory, StreamLimit}
+use Rattle.job_sources.specs.declared.refusal.Refusal.{Refusal}
+use Rattle.containment_text.specs.Containments.{refuses_no_leaf}
+use Rattle.job_sources.specs.FileNames.{FileNames}
+use Rattle.watch_report.specs.Report.{start, watching}
+use Rattle.monitor_run.specs.Jobs.{options_of}
+use Rattle.watch_report.specs.Drill.{MadeSay}
+use Rattle.monitor_run.specs.Running.{Ran}
+use Rattle.job_sources.specs.Sources.{nothing_more, Opens, FilesSay}
 
 -- the run ended well, or found no memory
 abbrev pub IsDone : Status → Type 0

@@ -5,41 +5,21 @@ ghost use Rattle.command_words.specs.Commands.{texts_of};
 ghost use Rattle.command_words.specs.Meanings.{IsWithinLimits, meaning_of};
 ghost use Rattle.stream_report.specs.Outside.{outside_of, sink_told};
 ghost use Rattle.monitor_run.specs.Ends.{line_of, status_of, status_of_refusal};
-ghost use Rattle.monitor_run.specs.Jobs.{asked_by, file_names};
+ghost use Rattle.monitor_run.specs.Jobs.{asked_by};
+ghost use Rattle.job_sources.specs.FileNames.{file_names};
 ghost use Rattle.monitor_run.specs.Running.{JobEnds, AskedEnds, RunEnds, Says, Ran};
 
-use crate::containment_files::contain_files;
-use crate::drilling::drill;
-use crate::ending::{Refusal, Status};
 use crate::error_line::error_line;
-use crate::jobs::{Job, Names};
-use crate::opening::open_files;
-use crate::options::{Options, options_of};
-use crate::rewriting_files::rewrite_files;
-use crate::watching::watch;
+use crate::jobs::{Job, options_of};
+use crate::status::Status;
 use command_words::{Request, WordsFault, read_words};
-use edge_io::{Files, Sink, Source};
+use containment_text::contain_files;
+use edge_io::{Files, Sink, Source, write_all};
+use job_sources::{Names, Refusal};
+use rewriting_text::rewrite_files;
 use std::alloc::Global;
-use stream_report::{Ending, write_all};
-
-/// Watches the stream by the files of these names.
-fn watch_files<F: Files, S: Source, K: Sink>(
-    alloc: Global,
-    names: Names<'_>,
-    options: Options,
-    files: &mut F,
-    input: &mut S,
-    out: &mut K,
-) -> Ending<Refusal>
-    ensures ends { JobEnds (Job.Watch options) (file_names names.entry) result
-        (outside_of F.Files S.Source K.Sink files.old input.old out.old)
-        (outside_of F.Files S.Source K.Sink files.new input.new out.new) }
-{
-    match open_files(alloc, files, names) {
-        Ok(monitor) => watch(alloc, options, monitor, input, out),
-        Err(ending) => ending,
-    }
-}
+use stream_report::Ending;
+use watch_report::{drill, watch_files};
 
 /// Does a job on the files of these names.
 fn do_job<F: Files, S: Source, K: Sink>(

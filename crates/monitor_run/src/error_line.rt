@@ -4,9 +4,9 @@ ghost use Rattle.std.specs.Prelude.{◌≡◌, ◌++◌, ◌+◌, ◌≤◌, len
 ghost use Rattle.arrayvec.specs.ArrayVec.{array_vec_len};
 ghost use Rattle.monitor_run.specs.Ends.{kind_text, query_kind_text, line_of};
 
-use crate::ending::{QueryName, Refusal};
 use arrayvec::ArrayVec;
 use itoa::Buffer;
+use job_sources::{QueryName, Refusal};
 use ontology_reader::OntologyKind;
 use stream_report::Ending;
 use tcq_reader::QueryKind;

@@ -1,13 +1,11 @@
 //! What is done with the files that the words name.
 
-use crate::options::Options;
+ghost use Rattle.std.specs.Prelude.{◌≡◌};
+ghost use Rattle.command_words.specs.Meanings.{watching_of};
+ghost use Rattle.monitor_run.specs.Jobs.{options_of};
 
-/// The names of the files of a job.
-#[derive(Clone, Copy, Debug)]
-pub struct Names<'a> {
-    pub ontology: &'a str,
-    pub queries: &'a str,
-}
+use command_words::Watch;
+use watch_report::Options;
 
 /// What is done with an ontology and queries.
 #[derive(Clone, Copy, Debug, PartialEq, Eq)]
@@ -18,4 +16,15 @@ pub enum Job {
     Rewrite,
     /// Writes which queries are contained in which others.
     Contain,
+}
+
+/// The options that the words of a watch mean.
+pub fn options_of(watch: Watch<'_>) -> Options
+    ensures { result ≡ options_of (watching_of watch.entry) }
+{
+    Options {
+        form: watch.form,
+        report: watch.report,
+        sizes: watch.sizes,
+    }
 }

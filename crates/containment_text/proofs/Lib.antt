@@ -1,0 +1,3 @@
+mod LeafQueries
+mod PairTexts
+mod OnePairs

@@ -1,0 +1,2 @@
+pub mod Containments
+pub mod Ends

@@ -1,0 +1,4 @@
+mod LongTexts
+mod Texts
+mod SourceTexts
+pub mod OneSetting

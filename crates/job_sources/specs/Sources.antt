@@ -1,0 +1,153 @@
+-- The opening: what the sources of a job say, or why they can't be used, in the order of opening.
+use Rattle.std.specs.Prelude.{◌≡◌, ◌⊎◌, ℕ, List, Option, Ok, Err}
+use Rattle.dl_syntax.specs.Ontology.{Declared}
+use Rattle.edge_io.specs.Causes.{Rose}
+use Rattle.edge_io.specs.Held.{Store, Lacks}
+use Rattle.ontology_reader.specs.declared.OntologyKind.{OntologyKind}
+use Rattle.ontology_reader.specs.Texts.{text_says}
+use Rattle.tcq_reader.specs.declared.faults.QueryKind.{QueryKind}
+use Rattle.tcq_reader.specs.Reading.{SaysQueries, IsFault}
+use Rattle.monitor_core.specs.Opening.{HasMoreRewritings}
+use Rattle.monitor_core.specs.Setting.{Setting}
+use Rattle.monitor_core.specs.Keeping.{Monitored}
+use Rattle.monitor_core.specs.Standing.{Stands, setting_of, no_history}
+use Rattle.report_text.specs.Names.{AreSpelled}
+use Rattle.stream_report.specs.declared.ending.Ending.{Ending}
+use Rattle.stream_report.specs.declared.ending.Ending.TheVariants.{Refused, ReadFault, Memory}
+use Rattle.stream_report.specs.Outside.{FilesTold}
+use Rattle.job_sources.specs.declared.refusal.Refusal.{Refusal}
+use Rattle.job_sources.specs.declared.refusal.Refusal.TheVariants.{BadOntology, TooManyRewritings}
+use Rattle.job_sources.specs.declared.refusal.Refusal.TheVariants.{BadQueries, NotALeaf}
+use Rattle.job_sources.specs.FileNames.{FileNames}
+use Rattle.job_sources.specs.Opening.{HasText, Is}
+
+-- ---- the texts of the ontology and of the queries, each told by what it has to be
+
+-- both have no fault, and say this
+pub record Says (is_ontology is_queries : List ℕ → Type 0) (setting : Setting) : Type 0 where
+  pub ontology : List ℕ
+  pub ontology_is : is_ontology ontology
+  pub ontology_says : text_says ontology ≡ Ok setting.ontology
+  pub queries : List ℕ
+  pub queries_is : is_queries queries
+  pub queries_say : SaysQueries setting.ontology queries setting.queries
+
+-- the ontology's text has this first fault
+pub record HasOntologyFault (is_ontology : List ℕ
+    → Type 0) (line : ℕ) (kind : OntologyKind) : Type 0 where
+  pub text : List ℕ
+  pub is : is_ontology text
+  pub fault : text_says text ≡ Err (line, kind)
+
+-- the ontology's text has no fault, and says this
+pub record SaysOntology (is_ontology : List ℕ → Type 0) (ontology : Declared) : Type 0 where
+  pub text : List ℕ
+  pub is : is_ontology text
+  pub says : text_says text ≡ Ok ontology
+
+-- the ontology's text has no fault, and the queries' text has this first one
+pub record HasQueriesFault (is_ontology is_queries : List ℕ
+    → Type 0) (line : ℕ) (kind : QueryKind) : Type 0 where
+  pub ontology : Declared
+  pub says : SaysOntology is_ontology ontology
+  pub text : List ℕ
+  pub is : is_queries text
+  pub fault : IsFault ontology text line kind
+
+-- the texts have a fault, and this is the first
+abbrev pub AreFaulty : (List ℕ → Type 0) → (List ℕ → Type 0) → Refusal → Type 0
+AreFaulty is_ontology is_queries (BadOntology line kind) = HasOntologyFault is_ontology line kind
+AreFaulty is_ontology is_queries (BadQueries line kind) =
+    HasQueriesFault is_ontology is_queries line kind
+AreFaulty is_ontology is_queries TooManyRewritings = ⊥
+AreFaulty is_ontology is_queries (NotALeaf name) = ⊥
+
+-- ---- what a job takes of what they say
+
+-- the leaves and the clashes reach more queries than may be, each leaf's and each clash's counted
+-- by themselves
+abbrev pub AreTooMany : Setting → Type 0
+AreTooMany setting = HasMoreRewritings setting.ontology setting.queries 1048576
+
+-- a job that refuses nothing by itself
+abbrev pub nothing_more : Setting → Refusal → Type 0
+nothing_more setting refusal = ⊥
+
+-- the job has no refusal of its own for this
+abbrev pub IsTaken : (Setting → Refusal → Type 0) → Setting → Type 0
+IsTaken own setting = (refusal : Refusal) → ¬ own setting refusal
+
+-- the job's own refusal, or else that too many queries are reached
+abbrev pub IsRefused : (Setting → Refusal → Type 0) → Setting → Ending Refusal → Type 0
+IsRefused own setting (Refused refusal) =
+    own setting refusal ⊎ ((refusal ≡ TooManyRewritings) × IsTaken own setting × AreTooMany setting)
+IsRefused own setting Memory = Unit {0}
+IsRefused own setting _ = ⊥
+
+-- ---- the opening
+
+-- the sources say this, the job takes it, and it reaches no more queries than may be
+pub record Opens (own : Setting → Refusal → Type 0) (says : Setting
+    → Type 0) (setting : Setting) : Type 0 where
+  pub say : says setting
+  pub taken : IsTaken own setting
+  pub few : ¬ AreTooMany setting
+
+-- the sources weren't read, or what they say is refused
+abbrev pub OpeningFails : (Setting → Refusal → Type 0) → (Setting → Type 0)
+    → (Ending Refusal → Type 0) → Ending Refusal → Type 0
+OpeningFails own says unread ending =
+    unread ending ⊎ ((setting : Setting) × says setting × IsRefused own setting ending)
+
+-- what the files of these names say
+abbrev pub FilesSay : Option Store → FileNames → Setting → Type 0
+FilesSay held names setting =
+    Says (HasText held names.ontology) (HasText held names.queries) setting
+
+-- a file wasn't fetched. The queries' file counts only after an ontology without a fault
+abbrev pub IsUnfetched : FilesTold → FilesTold → FileNames → Type 0
+IsUnfetched before now names =
+    Rose before.faults now.faults
+    ⊎ Lacks before.held names.ontology
+    ⊎ (((ontology : Declared) × SaysOntology (HasText before.held names.ontology) ontology)
+    × Lacks before.held names.queries)
+
+-- why files weren't read
+abbrev pub FilesUnread : FilesTold → FilesTold → FileNames → Ending Refusal → Type 0
+FilesUnread before now names (Refused refusal) =
+    AreFaulty (HasText before.held names.ontology) (HasText before.held names.queries) refusal
+FilesUnread before now names ReadFault = IsUnfetched before now names
+FilesUnread before now names Memory = Unit {0}
+FilesUnread before now names _ = ⊥
+
+-- why these texts weren't read
+abbrev pub TextsUnread : List ℕ → List ℕ → Ending Refusal → Type 0
+TextsUnread ontology queries (Refused refusal) = AreFaulty (Is ontology) (Is queries) refusal
+TextsUnread ontology queries Memory = Unit {0}
+TextsUnread ontology queries _ = ⊥
+
+-- ---- what parts of the opening answer
+
+-- a fetch of this name failed
+abbrev pub IsFetchRefused : FilesTold → FilesTold → List ℕ → Ending Refusal → Type 0
+IsFetchRefused before now name ReadFault = Rose before.faults now.faults ⊎ Lacks before.held name
+IsFetchRefused before now name Memory = Unit {0}
+IsFetchRefused before now name _ = ⊥
+
+-- the run ends at a fault of the ontology's text
+abbrev pub IsOntologyAtFault : List ℕ → Ending Refusal → Type 0
+IsOntologyAtFault text (Refused (BadOntology line kind)) = text_says text ≡ Err (line, kind)
+IsOntologyAtFault text Memory = Unit {0}
+IsOntologyAtFault text _ = ⊥
+
+-- the run ends at a fault of the queries' text
+abbrev pub AreQueriesAtFault : Declared → List ℕ → Ending Refusal → Type 0
+AreQueriesAtFault ontology text (Refused (BadQueries line kind)) = IsFault ontology text line kind
+AreQueriesAtFault ontology text Memory = Unit {0}
+AreQueriesAtFault ontology text _ = ⊥
+
+-- the monitor is the one of what the sources say, before any snapshot
+pub record Opened (says : Setting → Type 0) (monitor : Monitored) : Type 0 where
+  pub opens : Opens nothing_more says (setting_of monitor)
+  pub stands : Stands monitor no_history
+  pub spelled : AreSpelled (setting_of monitor).queries

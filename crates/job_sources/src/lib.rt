@@ -1,0 +1,13 @@
+//! What the sources of a job say: the files of an ontology and of queries, read in their order, and
+//! the monitor of them; or why they can't be used.
+#![tactic(auto)]
+
+mod names;
+mod opening;
+mod refusal;
+mod sources;
+
+pub use names::Names;
+pub use opening::{REWRITING_LIMIT, open_files, open_texts};
+pub use refusal::{QueryName, Refusal};
+pub use sources::{Sources, read_sources, read_texts};

@@ -1,0 +1,8 @@
+//! The files that the words name.
+
+/// The names of the files of a job.
+#[derive(Clone, Copy, Debug)]
+pub struct Names<'a> {
+    pub ontology: &'a str,
+    pub queries: &'a str,
+}

@@ -1,0 +1,140 @@
+//! The ontology and the queries of the files that the words name, whatever they say.
+
+ghost use Rattle.std.specs.Prelude.{◌≡◌, ◌≤◌, Ok, IfOk, IfErr, MatchResult};
+ghost use Rattle.edge_io.specs.Held.{IsFetched};
+ghost use Rattle.tcq_syntax.specs.Within.{AreWithin};
+ghost use Rattle.report_text.specs.Names.{AreSpelled};
+ghost use Rattle.ontology_reader.specs.Texts.{text_says};
+ghost use Rattle.tcq_reader.specs.Reading.{SaysQueries};
+ghost use Rattle.job_sources.specs.FileNames.{file_names};
+ghost use Rattle.job_sources.specs.Sayings.{setting_in};
+ghost use Rattle.job_sources.specs.Opening.{Is};
+ghost use Rattle.job_sources.specs.Sources.{IsOntologyAtFault, AreQueriesAtFault, IsFetchRefused};
+ghost use Rattle.job_sources.specs.Sources.{Says, FilesSay, FilesUnread, TextsUnread};
+ghost use Rattle.stream_report.specs.Outside.{files_told};
+
+use crate::names::Names;
+use crate::refusal::Refusal;
+use dl_syntax::Ontology;
+use edge_io::{FetchFault, Files};
+use ontology_reader::{OntologyFault, read_ontology};
+use std::alloc::Global;
+use stream_report::Ending;
+use tcq_reader::{QueryFault, read_queries};
+use tcq_syntax::Query;
+
+/// An ontology, and queries over it.
+#[derive(Drop)]
+pub struct Sources {
+    pub ontology: Ontology,
+    pub queries: Vec<Query>,
+}
+
+/// How many bytes of a file are fetched, but for one.
+const TEXT_LIMIT: u64 = 4_194_304;
+
+/// The first bytes of the file of this name.
+fn fetch<F: Files>(alloc: Global, files: &mut F, name: &str) -> Result<Vec<u8>, Ending<Refusal>>
+    ensures bytes { IfOk result (λ bytes. IsFetched (F.held files.old) name.now 4194304
+        bytes.items) }
+    ensures refused { IfErr result
+        (IsFetchRefused (files_told F.Files files.old) (files_told F.Files files.new) name.now) }
+    ensures held { F.held files.new ≡ F.held files.old }
+    ensures later { F.faults files.old ≤ F.faults files.new }
+{
+    match files.fetch(alloc, name, TEXT_LIMIT) {
+        Ok(bytes) => Ok(bytes),
+        Err(FetchFault::Failed) => Err(Ending::ReadFault),
+        Err(FetchFault::Memory) => Err(Ending::Memory),
+    }
+}
+
+/// The ontology of the text, or how the run ends.
+fn ontology_of(alloc: Global, text: &[u8]) -> Result<Ontology, Ending<Refusal>>
+    ensures { MatchResult result
+        (λ ontology. text_says text.now ≡ Ok ontology) (IsOntologyAtFault text.now) }
+{
+    match read_ontology(alloc, text) {
+        Ok(ontology) => Ok(ontology),
+        Err(OntologyFault::Bad { line, kind }) => Err(Ending::Refused(Refusal::BadOntology(
+            line, kind,
+        ))),
+        Err(OntologyFault::Memory) => Err(Ending::Memory),
+    }
+}
+
+/// The queries of the text, or how the run ends.
+fn queries_of(
+    alloc: Global,
+    text: &[u8],
+    ontology: &Ontology,
+) -> Result<Vec<Query>, Ending<Refusal>>
+    ensures { MatchResult result
+        (λ queries. SaysQueries ontology.now text.now queries.items)
+        (AreQueriesAtFault ontology.now text.now) }
+{
+    match read_queries(alloc, text, ontology) {
+        Ok(queries) => Ok(queries),
+        Err(QueryFault::Bad { line, kind }) => Err(Ending::Refused(Refusal::BadQueries(
+            line, kind,
+        ))),
+        Err(QueryFault::Memory) => Err(Ending::Memory),
+    }
+}
+
+/// What the files of these names say, or how the run ends.
+pub fn read_sources<F: Files>(
+    alloc: Global,
+    files: &mut F,
+    names: Names<'_>,
+) -> Result<Sources, Ending<Refusal>>
+    ensures say { IfOk result (λ sources.
+        FilesSay (F.held files.old) (file_names names.entry) (setting_in sources)) }
+    ensures within { IfOk result (λ sources. AreWithin sources.ontology sources.queries.items) }
+    ensures spelled { IfOk result (λ sources. AreSpelled sources.queries.items) }
+    ensures refuses { IfErr result (FilesUnread (files_told F.Files files.old)
+        (files_told F.Files files.new) (file_names names.entry)) }
+    ensures held { F.held files.new ≡ F.held files.old }
+{
+    let text = match fetch(alloc, files, names.ontology) {
+        Ok(text) => text,
+        Err(ending) => return Err(ending),
+    };
+    let ontology = match ontology_of(alloc, &text) {
+        Ok(ontology) => ontology,
+        Err(ending) => return Err(ending),
+    };
+    let text = match fetch(alloc, files, names.queries) {
+        Ok(text) => text,
+        Err(ending) => return Err(ending),
+    };
+    match queries_of(alloc, &text, &ontology) {
+        Ok(queries) => Ok(Sources { ontology, queries }),
+        Err(ending) => Err(ending),
+    }
+}
+
+/// What these texts say, or how the run ends.
+pub fn read_texts(
+    alloc: Global,
+    ontology: &[u8],
+    queries: &[u8],
+) -> Result<Sources, Ending<Refusal>>
+    ensures say { IfOk result (λ sources.
+        Says (Is ontology.now) (Is queries.now) (setting_in sources)) }
+    ensures within { IfOk result (λ sources. AreWithin sources.ontology sources.queries.items) }
+    ensures spelled { IfOk result (λ sources. AreSpelled sources.queries.items) }
+    ensures refuses { IfErr result (TextsUnread ontology.now queries.now) }
+{
+    let said = match ontology_of(alloc, ontology) {
+        Ok(ontology) => ontology,
+        Err(ending) => return Err(ending),
+    };
+    match queries_of(alloc, queries, &said) {
+        Ok(queries) => Ok(Sources {
+            ontology: said,
+            queries,
+        }),
+        Err(ending) => Err(ending),
+    }
+}

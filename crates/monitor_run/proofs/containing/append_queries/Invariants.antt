@@ -1,7 +1,0 @@
-use Rattle.std.proofs.Common.{take}
-use Rattle.monitor_run.specs.Containments.{pairs_from, TellsMorePairs}
-use Rattle.monitor_run.proofs.containing.append_queries.Given as goal
-
-abbrev pub invariant-loop-place : goal.invariant-loop-place
-invariant-loop-place l = TellsMorePairs l.source.ontology.now
-    (pairs_from l.queries 0 (take l.place l.queries)) l.initial.text.items l.text.items

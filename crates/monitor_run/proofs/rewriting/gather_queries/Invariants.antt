@@ -1,9 +1,0 @@
-use Rattle.std.proofs.Common.{◌≤◌, take}
-use Rattle.monitor_run.specs.Leaves.{leaves}
-use Rattle.monitor_run.specs.Reaching.{Gathers}
-use Rattle.monitor_run.proofs.rewriting.gather_queries.Given as goal
-
-abbrev pub invariant-loop-query : goal.invariant-loop-query
-invariant-loop-query l = (l.count ≤ l.room)
-    × Gathers l.source.ontology.now (leaves (take l.query-index l.queries)) l.initial.text.items
-    l.text.items l.count

@@ -1,9 +1,0 @@
-use Rattle.std.proofs.Common.{◌≤◌, take}
-use Rattle.monitor_run.specs.Leaves.{leaves_from}
-use Rattle.monitor_run.specs.Reaching.{Gathers}
-use Rattle.monitor_run.proofs.rewriting.gather_query.Given as goal
-
-abbrev pub invariant-loop-place : goal.invariant-loop-place
-invariant-loop-place l = (l.count ≤ l.room)
-    × Gathers l.source.ontology.now (leaves_from l.name 0 (take l.place l.nodes))
-    l.initial.text.items l.text.items l.count

@@ -1,0 +1,5 @@
+mod SortedTexts
+mod Counts
+mod Gathering
+mod Openings
+pub mod OneText

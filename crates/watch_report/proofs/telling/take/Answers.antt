@@ -1,0 +1,18 @@
+use Rattle.std.proofs.Common.{Err, ◌∙◌, ap}
+use Rattle.monitor_core.specs.declared.accept_fault.AcceptFault.{AcceptFault}
+use Rattle.watch_report.proofs.ReplyLaws.{all_accepted, all_refused}
+use Rattle.watch_report.proofs.telling.take.Goals as goal
+
+pub returns-in-Err-clause-ok : goal.returns-in-Err-clause-ok
+returns-in-Err-clause-ok c =
+    all_refused c.args.options c.args.monitor.now c.accept.new.self c.args.snapshot.now
+    c.args.number c.in-Err.fault c.refusal.result
+    (λ clash is. c.accept.ensures.contradiction clash
+    (c.in-Err.is ∙ ap (λ (f : AcceptFault). Err f) is))
+    c.in-Err.ensures.err c.refusal.ensures.refuses
+
+pub returns-in-Ok-clause-ok : goal.returns-in-Ok-clause-ok
+returns-in-Ok-clause-ok c =
+    all_accepted c.args.options c.args.monitor.now c.accept.new.self c.args.snapshot.now
+    c.args.number c.in-Ok.answers.items c.accepted.result c.in-Ok.ensures.consistent
+    c.accept.ensures.setting c.in-Ok.ensures.ok c.accepted.ensures.tells

@@ -1,0 +1,9 @@
+pub mod Task
+pub mod Outcome
+pub mod Told
+pub mod Report
+pub mod Replies
+pub mod Props
+pub mod Drill
+pub mod Ends
+pub mod ReportLaws

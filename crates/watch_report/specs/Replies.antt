@@ -1,0 +1,58 @@
+-- What the monitor replies to a line.
+use Rattle.std.specs.Prelude.{◌≡◌, ℕ, Option, None, Some, List, [], ◌∷◌, ◌++◌}
+use Rattle.tcq_syntax.specs.Histories.{History}
+use Rattle.edge_io.specs.Lines.{Item as StreamLine}
+use Rattle.report_text.specs.declared.item.Cause.{Cause}
+use Rattle.report_text.specs.declared.item.Cause.TheVariants as cause
+use Rattle.report_text.specs.declared.event.Event.{Event}
+use Rattle.report_text.specs.declared.event.Event.TheVariants as event
+use Rattle.report_text.specs.Events.{EventHasNames}
+use Rattle.snapshot_reader.specs.Said.{Said, nothing, refused, says}
+use Rattle.monitor_core.specs.declared.accept_fault.AcceptFault.{AcceptFault}
+use Rattle.monitor_core.specs.declared.accept_fault.AcceptFault.TheVariants as fault
+use Rattle.monitor_core.specs.Keeping.{Monitored}
+use Rattle.monitor_core.specs.Setting.{Setting}
+use Rattle.monitor_core.specs.Standing.{Stands}
+use Rattle.watch_report.specs.declared.options.Options.{Options}
+use Rattle.watch_report.specs.Outcome.{cause_of}
+use Rattle.watch_report.specs.Report.{bytes_of, refused_in}
+use Rattle.watch_report.specs.Task.{task_of}
+use Rattle.watch_report.specs.Told.{TellsLine}
+
+-- what is told, if there is an event
+abbrev pub told_by : Option Event → List Event
+told_by None = []
+told_by (Some told) = told ∷ []
+
+-- the numbers and names that the event has, if there is one, exist
+abbrev pub HasNamesOf : Setting → Option Event → Type 0
+HasNamesOf setting None = Unit {0}
+HasNamesOf setting (Some told) = EventHasNames setting.ontology setting.queries told
+
+-- a text is refused for the cause
+abbrev pub IsRefusedFor : Said → Cause → Type 0
+IsRefusedFor nothing why = ⊥
+IsRefusedFor (refused c) why = why ≡ cause_of c
+IsRefusedFor (says snapshot) why = ⊥
+
+-- the event tells that the line with this number was refused for the clash that the snapshot met
+abbrev pub IsRefusal : ℕ → AcceptFault → Event → Type 0
+IsRefusal number (fault.Contradiction clash) told =
+    told ≡ event.Refused number (cause.Contradiction clash)
+IsRefusal number fault.Memory told = ⊥
+
+-- a monitor that stood for the history replied to the line with this number by this event, or by
+-- none
+pub record AcceptsLine (options : Options) (old new : Monitored) (line : StreamLine) (number : ℕ)
+    (told : Option Event) (history : History) : Type 0 where
+  pub after : History
+  pub stands : Stands new after
+  pub tells : TellsLine (task_of options old) history number line (told_by told) after
+
+-- and what is told was gathered behind the buffer's bytes, of so many refusals
+pub record Replied (options : Options) (old new : Monitored) (line : StreamLine) (number : ℕ)
+    (history : History) (before now : List ℕ) (refused : ℕ) : Type 0 where
+  pub told : Option Event
+  pub accepts : AcceptsLine options old new line number told history
+  pub gathers : now ≡ before ++ bytes_of (task_of options old) (told_by told)
+  pub refuses : refused ≡ refused_in (told_by told)

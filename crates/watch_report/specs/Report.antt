@@ -1,0 +1,66 @@
+-- The report of a stream.
+use Rattle.std.specs.Prelude.{◌≡◌, ℕ, ◌+◌, Bool, true, false, List}
+use Rattle.std.specs.List.{flat_map, count_by}
+use Rattle.tcq_syntax.specs.Histories.{History}
+use Rattle.edge_io.specs.Lines.{Item as StreamLine}
+use Rattle.report_text.specs.declared.event.Event.{Event}
+use Rattle.report_text.specs.declared.event.Event.TheVariants.{Refused, End}
+use Rattle.report_text.specs.Events.{event_text, report_heading_text}
+use Rattle.monitor_core.specs.Standing.{count_of, no_history}
+use Rattle.stream_report.specs.Told.{Step, Manner}
+use Rattle.watch_report.specs.Task.{Task}
+use Rattle.watch_report.specs.Told.{TellsLine}
+
+-- the bytes that tell an event
+abbrev pub bytes_of_event : Task → Event → List ℕ
+bytes_of_event task event = event_text task.options.report task.setting.ontology
+    task.setting.queries event
+
+abbrev pub bytes_of : Task → List Event → List ℕ
+bytes_of task told = flat_map (bytes_of_event task) told
+
+-- what stands before the first event
+unfoldable pub heading : Task → List ℕ
+heading task = report_heading_text task.options.report
+
+abbrev pub is_refusal : Event → Bool
+is_refusal (Refused line cause) = true
+is_refusal _ = false
+
+abbrev pub refused_in : List Event → ℕ
+refused_in told = count_by is_refusal told
+
+-- where a watch stands between lines: the snapshots accepted so far, and how many lines were
+-- refused
+pub record Standing : Type 0 where
+  pub history : History
+  pub refused : ℕ
+
+-- before the first line
+abbrev pub start : Standing
+start = record { history = no_history; refused = 0 }
+
+-- a watch goes on by a line with this number, of which these events are told
+abbrev pub GoesOn : Task → Standing → ℕ → StreamLine → List Event → Standing → Type 0
+GoesOn task before number line told after =
+    TellsLine task before.history number line told after.history
+    × (after.refused ≡ before.refused + refused_in told)
+
+-- the last event
+abbrev pub end_event : Standing → Event
+end_event after = End (count_of after.history) after.refused
+
+-- what a watch tells of a line
+abbrev pub watches : Task → Step Standing
+watches task before number line told after =
+    (events : List Event)
+    × GoesOn task before number line events after
+    × (told ≡ bytes_of task events)
+
+-- and of a stream: first the heading, last the end
+abbrev pub watching : Task → Manner Standing
+watching task = record {
+  opening = heading task;
+  step = watches task;
+  closes = λ after last. last ≡ bytes_of_event task (end_event after);
+}

@@ -1,0 +1,76 @@
+-- Laws of what is told of lines, and of reports.
+use Rattle.std.specs.Prelude.{◌≡◌, ℕ, List}
+use Rattle.dl_syntax.specs.Ontology.{Declared}
+use Rattle.tcq_syntax.specs.Histories.{History}
+use Rattle.edge_io.specs.Lines.{Item as StreamLine}
+use Rattle.report_text.specs.declared.event.Event.{Event}
+use Rattle.forms.specs.declared.StreamForm.{StreamForm}
+use Rattle.monitor_core.specs.Setting.{Setting}
+use Rattle.stream_report.specs.Laws as streams
+use Rattle.stream_maker.specs.Snapshots.{stream_text}
+use Rattle.job_sources.specs.declared.refusal.Refusal.{Refusal}
+use Rattle.watch_report.specs.Drill.{IsDrill, MadeSay}
+use Rattle.watch_report.specs.Outcome.{Outcome, HasOutcome}
+use Rattle.watch_report.specs.Report.{watches, watching}
+use Rattle.job_sources.specs.Sources.{nothing_more, Opens}
+use Rattle.watch_report.specs.Task.{Task}
+use Rattle.watch_report.specs.Told.{TellsLine}
+
+-- a line has one outcome
+abbrev pub OneOutcome : Type 0
+OneOutcome =
+    (ontology : Declared) (form : StreamForm) (item : StreamLine) (one other : Outcome) →
+    HasOutcome ontology form item one → HasOutcome ontology form item other → one ≡ other
+
+-- one thing is told of a line, and one history comes after it
+abbrev pub OneLine : Type 0
+OneLine =
+    (task : Task) (history : History) (number : ℕ) (line : StreamLine)
+    (one other : List Event) (after later : History) →
+    TellsLine task history number line one after → TellsLine task history number line other later →
+    (one ≡ other) × (after ≡ later)
+
+-- one text is told of the same lines, and one history comes after them
+abbrev pub OneTold : Type 0
+OneTold = (task : Task) → streams.OneTold (watches task)
+
+-- what is told of lines joined is what is told of the first and then of the others
+abbrev pub ToldJoined : Type 0
+ToldJoined = (task : Task) → streams.ToldJoined (watches task)
+
+-- and nothing else is told of lines joined
+abbrev pub ToldParts : Type 0
+ToldParts = (task : Task) → streams.ToldParts (watches task)
+
+-- the report of the same lines is one text
+abbrev pub OneReport : Type 0
+OneReport = (task : Task) → streams.OneReport (watching task)
+
+-- so is the report of complete lines
+abbrev pub OnePart : Type 0
+OnePart = (task : Task) → streams.OnePart (watching task)
+
+-- a beginning of the report of the first lines is one of the report of all
+abbrev pub BeginsPart : Type 0
+BeginsPart = (task : Task) → streams.BeginsAll (watching task)
+
+-- at the end of the input too
+abbrev pub BeginsWhole : Type 0
+BeginsWhole = (task : Task) → streams.BeginsWhole (watching task)
+
+-- what a run that was cut short wrote is a beginning of each report
+abbrev pub CutShort : Type 0
+CutShort = (task : Task) → streams.CutShort (watching task)
+
+-- a watch ends at the limit exactly where more was taken and the report of the complete lines was
+-- written, but for want of memory
+abbrev pub LimitIsExact : Type 0
+LimitIsExact = (task : Task) → streams.LimitIsExact Refusal (watching task)
+
+-- the drill of one seed and count is one text
+abbrev pub OneDrill : Type 0
+OneDrill =
+    (seed count : ℕ) (setting later : Setting) (one other : List ℕ) →
+    Opens nothing_more MadeSay setting → Opens nothing_more MadeSay later →
+    IsDrill setting (stream_text seed count) one → IsDrill later (stream_text seed count) other
+    → one ≡ other

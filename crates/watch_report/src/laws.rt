@@ -1,0 +1,66 @@
+//! Laws of what is told of lines, and of reports, each the contract of a function with nothing to
+//! do.
+ghost use Rattle.watch_report.specs.ReportLaws.{OneOutcome, OneLine, OneTold, ToldJoined};
+ghost use Rattle.watch_report.specs.ReportLaws.{ToldParts, OneReport, OnePart, BeginsPart};
+ghost use Rattle.watch_report.specs.ReportLaws.{BeginsWhole, CutShort, LimitIsExact, OneDrill};
+
+/// A line has one outcome.
+pub fn one_outcome()
+    ensures { OneOutcome }
+{}
+
+/// One thing is told of a line.
+pub fn one_line()
+    ensures { OneLine }
+{}
+
+/// One text is told of the same lines.
+pub fn one_told()
+    ensures { OneTold }
+{}
+
+/// What is told of lines joined is what is told of the first and then of the others.
+pub fn told_joined()
+    ensures { ToldJoined }
+{}
+
+/// And nothing else.
+pub fn told_parts()
+    ensures { ToldParts }
+{}
+
+/// The report of the same lines is one text.
+pub fn one_report()
+    ensures { OneReport }
+{}
+
+/// So is the report of complete lines.
+pub fn one_part()
+    ensures { OnePart }
+{}
+
+/// A beginning of the report of the first lines is one of the report of all.
+pub fn begins_part()
+    ensures { BeginsPart }
+{}
+
+/// At the end of the input too.
+pub fn begins_whole()
+    ensures { BeginsWhole }
+{}
+
+/// What a run that was cut short wrote is a beginning of each report.
+pub fn cut_short()
+    ensures { CutShort }
+{}
+
+/// The loop of a watch ends at the limit exactly where more was taken and the report of the
+/// complete lines was written, but for want of memory.
+pub fn limit_is_exact()
+    ensures { LimitIsExact }
+{}
+
+/// The drill of one seed and count is one text.
+pub fn one_drill()
+    ensures { OneDrill }
+{}
