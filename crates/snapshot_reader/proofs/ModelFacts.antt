@@ -69,7 +69,7 @@ no_further o = refl
 
 pub further_more : (o : Declared) (facts : List Written) (w : Written)
     → further_names o (facts ++ w ∷ []) ≡ fold (with_further o) (further_names o facts)
-        (arguments w)
+    (arguments w)
 unfolding further_names
 further_more o facts w =
     ap (fold (with_further o) []) (flat_map-append arguments facts (w ∷ []))

@@ -11,4 +11,4 @@ returns-in-Some c =
     c.in_ok-variables.variables.items c.in-Some.bindings.items elements.items are is same)
     c.elements_of.result
     (rw (c.as_slice-in-Some.ensures.value, c.as_slice-in-Some-2.ensures.value) at
-        c.elements_of.ensures)
+    c.elements_of.ensures)

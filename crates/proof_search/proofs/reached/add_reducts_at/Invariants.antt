@@ -8,5 +8,5 @@ use Rattle.proof_search.proofs.reached.add_reducts_at.Given as goal
 abbrev pub invariant-loop-first : goal.invariant-loop-first
 invariant-loop-first l = (inclusions : List Inclusion)
     → Grows inclusions (Somewhere (λ j. Reduces j l.second l.cq) l.first)
-        l.initial.reached.found.keys
+    l.initial.reached.found.keys
     l.initial.reached.links.items l.reached.found.keys l.reached.links.items

@@ -15,7 +15,7 @@ bounds-queries-link c =
     rw c.as_slice-links.ensures.value c.requires.linked in
     link_within (encode (length c.args.ontology.now.roles)
     c.args.ontology.now.inclusions) c.args.reached.now.found.keys c.as_slice-links.result.now are
-        c.args.place
+    c.args.place
     c.requires.positive c.requires.within _
     c.as_slice-queries.result.now c.as_slice-queries.ensures.keys
 
@@ -26,7 +26,7 @@ returns-clause-earlier c =
     rw c.as_slice-links.ensures.value c.requires.linked in
     link_earlier (encode (length c.args.ontology.now.roles)
     c.args.ontology.now.inclusions) c.args.reached.now.found.keys c.as_slice-links.result.now are
-        c.args.place
+    c.args.place
     c.requires.positive c.requires.within _
 
 pub go_by_link-requires-clause-leads : goal.go_by_link-requires-clause-leads
@@ -38,12 +38,12 @@ go_by_link-requires-clause-leads c =
     c.index-queries-link.result c.as_slice-queries.ensures.keys
     (link_within (encode (length c.args.ontology.now.roles)
     c.args.ontology.now.inclusions) c.args.reached.now.found.keys c.as_slice-links.result.now are
-        c.args.place
+    c.args.place
     c.requires.positive c.requires.within _ c.args.reached.now.found.keys refl)
     c.index-queries-link.is in
     link_leads (encode (length c.args.ontology.now.roles)
     c.args.ontology.now.inclusions) c.args.reached.now.found.keys c.as_slice-links.result.now are
-        c.args.place
+    c.args.place
     c.requires.positive c.requires.within _
     c.args.walk.now.known.items (map (λ (i : IndId). ind_element i) c.args.row.now)
     c.requires.gives c.index-queries-link.result there
@@ -57,7 +57,7 @@ returns-clause-gives c =
     c.index-queries-link.result c.as_slice-queries.ensures.keys
     (link_within (encode (length c.args.ontology.now.roles)
     c.args.ontology.now.inclusions) c.args.reached.now.found.keys c.as_slice-links.result.now are
-        c.args.place
+    c.args.place
     c.requires.positive c.requires.within _ c.args.reached.now.found.keys refl)
     c.index-queries-link.is in
     given_at c.args.reached.now.found.keys _ c.index-queries-link.result

@@ -12,5 +12,5 @@ loop-fact-preserved c =
 pub returns : goal.returns
 returns c =
     flat_all (fact_text c.args.ontology.now) c.args.facts.now c.loop-fact.fact-index _ _
-        (omega arith)
+    (omega arith)
     c.loop-fact.invariant

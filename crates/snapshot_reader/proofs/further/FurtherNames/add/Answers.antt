@@ -36,7 +36,7 @@ added text name names new list declared view spelled free is =
     (l ++ bytes_of name ∷ [])) view
     ∙ ap (λ (t : List ℕ). cond (list_any (bytes_eq t) list) list (list ++ t ∷ [])) spelled
     ∙ ap (λ (b : Bool). cond (b || list_any (bytes_eq text) list) list (list ++ text ∷ []))
-        (sym free)
+    (sym free)
 
 pub returns : goal.returns
 returns c = record {
