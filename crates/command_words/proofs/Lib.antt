@@ -7,3 +7,4 @@ pub mod RowsFound
 pub mod Passes
 pub mod Accepted
 pub mod Meant
+pub mod NeverRefused
