@@ -4,6 +4,7 @@ ghost use Rattle.std.specs.Prelude.{◌≤◌};
 
 mod answers;
 mod containing;
+mod limits;
 mod refusals;
 mod rewriting;
 

@@ -1,5 +1,4 @@
 mod SortedTexts
-mod Counts
+mod LeafLists
 mod Gathering
-mod Openings
 pub mod OneText

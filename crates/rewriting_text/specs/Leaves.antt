@@ -1,6 +1,7 @@
 -- The leaves of queries, and what is told of their rewritings.
 use Rattle.std.specs.Prelude.{◌≡◌, ℕ, ◌+◌, List, [], ◌∷◌, ◌++◌, codes, flat_map, length, map, Vec}
 use Rattle.std.specs.Global.{Global}
+use Rattle.std.specs.List.{Contains}
 use Rattle.std.specs.List.Sorted.{IsPermutation, IsSorted}
 use Rattle.std.specs.Cmp.Lexicographic.{slice_cmp}
 use Rattle.std.specs.Ordering.{nat_cmp}
@@ -9,7 +10,8 @@ use Rattle.dl_syntax.specs.Ontology.{Declared}
 use Rattle.tcq_syntax.specs.declared.nodes.Node.{Node}
 use Rattle.tcq_syntax.specs.declared.nodes.Node.TheVariants as node
 use Rattle.tcq_syntax.specs.Tcq.{Tcq}
-use Rattle.perfect_ref.specs.Plain.{Lists, PlainReachable, encoded}
+use Rattle.perfect_ref.specs.Plain.{Encoded, Lists, Reachable, PlainReachable, HoldsOfMore}
+use Rattle.perfect_ref.specs.Plain.{encoded}
 use Rattle.report_text.specs.Queries.{cq_text, leaf_line}
 use Rattle.monitor_core.specs.Setting.{Setting}
 
@@ -35,10 +37,6 @@ leaves_of query = leaves_from query.name 0 query.nodes
 -- the leaves of queries in their order
 abbrev pub leaves : List Tcq → List NamedLeaf
 leaves queries = flat_map leaves_of queries
-
--- what the leaves ask
-abbrev pub asked : List NamedLeaf → List Cq
-asked leaves = map (λ leaf. leaf.asks) leaves
 
 -- the texts of the queries of a rewriting, one for each, in the order of their bytes
 pub record AreTexts (ontology : Declared) (q : Cq) (texts : List (List ℕ)) : Type 0 where
@@ -67,6 +65,12 @@ pub record TellsMore (ontology : Declared) (leaf : NamedLeaf) (before now : List
   pub tells : TellsLeaf ontology leaf told
   pub gains : now ≡ before ++ told
 
+-- one of the leaves reaches by itself more queries than may be reached in all
+pub record HasLargeLeaf (e : Encoded) (leaves : List NamedLeaf) : Type 0 where
+  pub leaf : NamedLeaf
+  pub there : Contains leaves leaf
+  pub reaches : HoldsOfMore (Reachable e leaf.asks) 1048576
+
 -- what is told of leaves in their order
 abbrev pub TellsLeaves : Declared → List NamedLeaf → List ℕ → Type 0
 TellsLeaves ontology [] told = told ≡ []
@@ -75,6 +79,13 @@ TellsLeaves ontology (leaf ∷ leaves) told =
     × TellsLeaf ontology leaf first
     × TellsLeaves ontology leaves rest
     × (told ≡ first ++ rest)
+
+-- a text gained what is told of leaves
+pub record TellsMoreLeaves (ontology : Declared) (leaves : List NamedLeaf) (before now : List ℕ)
+    : Type 0 where
+  pub told : List ℕ
+  pub tells : TellsLeaves ontology leaves told
+  pub gains : now ≡ before ++ told
 
 -- the text of the rewritings of all leaves
 abbrev pub IsRewriting : Setting → List ℕ → Type 0

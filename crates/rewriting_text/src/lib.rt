@@ -3,7 +3,6 @@
 
 pub mod laws;
 mod leaf_texts;
-mod reaching;
 mod rewriting;
 mod rewriting_files;
 

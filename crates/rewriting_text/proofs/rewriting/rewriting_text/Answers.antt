@@ -1,10 +1,18 @@
-use Rattle.rewriting_text.proofs.Openings.{too_many, more_than_fit}
+use Rattle.std.proofs.Common.{◌≡◌, [], ◌∷◌, ◌++◌, Err, List, subst}
+use Rattle.std.proofs.lemmas.List.Elements.{Contains-append_left}
+use Rattle.perfect_ref.specs.Plain.{encoded}
+use Rattle.perfect_ref.proofs.Counting.{more_contained}
+use Rattle.consistency.specs.Asking.{queries_of}
+use Rattle.monitor_core.specs.Opening.{all_leaves, starts}
+use Rattle.rewriting_text.specs.Leaves.{leaves, IsRewriting, TellsLeaves, HasLargeLeaf}
+use Rattle.rewriting_text.proofs.LeafLists.{among_all}
 use Rattle.rewriting_text.proofs.rewriting.rewriting_text.Goals as goal
 
-pub returns-in-Ok-gather_all-clause-within : goal.returns-in-Ok-gather_all-clause-within
-returns-in-Ok-gather_all-clause-within c = λ many.
-    c.in-Ok-gather_all.ensures.within (too_many c.args.ontology.now c.args.queries.now many)
-
-pub returns-in-Err-gather_all-clause-many : goal.returns-in-Err-gather_all-clause-many
-returns-in-Err-gather_all-clause-many c = λ is.
-    more_than_fit c.args.ontology.now c.args.queries.now (c.gather_all.ensures.many (cc))
+pub returns-in-Err-gather_queries-clause-many : goal.returns-in-Err-gather_queries-clause-many
+returns-in-Err-gather_queries-clause-many c = λ h.
+    let o = c.args.ontology.now in
+    let queries = c.args.queries.now in
+    let large : HasLargeLeaf (encoded o) (leaves queries) = c.gather_queries.ensures.many (cc) in
+    more_contained (encoded o) (starts o queries) large.leaf.asks 1048576
+    (Contains-append_left (all_leaves queries) (queries_of o.clashes) large.leaf.asks
+    (among_all large.leaf queries large.there)) large.reaches

@@ -1,6 +1,7 @@
 use Rattle.std.proofs.Common.{◌≡◌, ℕ, List, Err, inl, inr, refl, sym, subst}
 use Rattle.perfect_ref.specs.declared.rewriting.RewriteFault.TheVariants.{TooManyRewritings}
 use Rattle.tcq_syntax.specs.Tcq.{Tcq}
+use Rattle.tcq_syntax.specs.Within.{AreWithin}
 use Rattle.monitor_core.specs.Setting.{Setting}
 use Rattle.stream_report.specs.Ends.{Written}
 use Rattle.stream_report.specs.Outside.{sink_told}
@@ -9,6 +10,10 @@ use Rattle.job_sources.specs.FileNames.{file_names}
 use Rattle.rewriting_text.specs.Leaves.{IsRewriting}
 use Rattle.job_sources.specs.Sources.{FilesSay}
 use Rattle.rewriting_text.proofs.rewriting_files.rewrite_files.Goals as goal
+
+pub rewriting_text-requires : goal.rewriting_text-requires
+rewriting_text-requires g c =
+    subst (AreWithin c.in-Ok.sources.ontology) (sym c.deref.ensures.value) c.in-Ok.ensures.within
 
 pub returns-in-Ok-rewriting_text : goal.returns-in-Ok-rewriting_text
 returns-in-Ok-rewriting_text g c = record {
