@@ -15,11 +15,12 @@ use Rattle.antichains.specs.Sets.{holds}
 use Rattle.answer_tables.specs.declared.run.Run.{Run}
 use Rattle.answer_tables.specs.Tuples.{IsTuple, number}
 use Rattle.answer_tables.specs.Table.{Antichains, at, antichain_at, view_of}
-use Rattle.answer_tables.specs.Holding.{IsListed, Listed}
+use Rattle.answer_tables.specs.Holding.{IsBelow, IsListed, Listed}
 use Rattle.answer_tables.proofs.Numbers.{tuple_below}
 use Rattle.answer_tables.proofs.Orders.{below_by_number, number_tells, above_last}
 use Rattle.answer_tables.proofs.Spreads.{power_split}
 use Rattle.answer_tables.proofs.Views.{at_view}
+use Rattle.answer_tables.proofs.Widening.{wider}
 
 -- the first digit of a number below a power, and the rest
 pub record Digit (slots places rest w : ℕ) : Type 0 where
@@ -54,21 +55,21 @@ Digit-of slots places rest w is some below = go (cases_lt zero w)
           power = power;
         }
 
-pub above_listed : (slots rank : ℕ) (rows : Relation) (tuple : List IndId)
-    → IsListed slots rows rank → IsTuple slots rows.arity tuple → number slots tuple ≡ rank
+pub above_listed : (slots bound rank : ℕ) (rows : Relation) (tuple : List IndId)
+    → IsListed slots bound rows rank → IsTuple slots rows.arity tuple → number slots tuple ≡ rank
     → IsAboveLast tuple rows.rows
-above_listed slots rank rows tuple listed is num =
+above_listed slots bound rank rows tuple listed is num =
     above_last rows.rows tuple (λ x there. let one = listed.tuples x there in
     below_by_number slots rows.arity x tuple one.0 is (let less = one.1 in
     omega (arith, less, num)))
 
 -- nothing more
-pub Listed-none : (slots start : ℕ) (rows : Relation) → IsListed slots rows start
-    → Listed slots rows start start rows
-Listed-none slots start rows listed = record {
+pub Listed-none : (slots bound start : ℕ) (rows : Relation) → IsListed slots bound rows start
+    → Listed slots bound rows start start rows
+Listed-none slots bound start rows listed = record {
   arity = refl;
   listed = listed;
-  exact = λ tuple is. (
+  exact = λ tuple is low. (
     λ there. inl there,
     λ either. elim either [
       | inl there ↦ there
@@ -79,19 +80,21 @@ Listed-none slots start rows listed = record {
 }
 
 -- one more tuple
-pub Listed-push : (slots rank : ℕ) (rows new : Relation) (tuple : List IndId)
-    → IsListed slots rows rank → IsTuple slots rows.arity tuple → number slots tuple ≡ rank
+pub Listed-push : (slots bound rank : ℕ) (rows new : Relation) (tuple : List IndId)
+    → IsListed slots bound rows rank → IsTuple slots rows.arity tuple → IsBelow bound tuple
+    → number slots tuple ≡ rank
     → new ≡ record { arity = rows.arity; rows = rows.rows ++ tuple ∷ [] }
-    → Listed slots rows rank (rank + 1) new
-Listed-push slots rank rows new tuple listed is num same =
-    subst (Listed slots rows rank (rank + 1)) (sym same) (record {
+    → Listed slots bound rows rank (rank + 1) new
+Listed-push slots bound rank rows new tuple listed is low num same =
+    subst (Listed slots bound rows rank (rank + 1)) (sym same) (record {
       arity = refl;
       listed = record {
         rising = IsRising-push rows.rows tuple listed.rising
-            (above_listed slots rank rows tuple listed is num);
+            (above_listed slots bound rank rows tuple listed is num);
         tuples = λ x there. tuples x (Contains-push_cases rows.rows tuple x there);
+        bounded = λ x there. bounded x (Contains-push_cases rows.rows tuple x there);
       };
-      exact = λ x tup. (
+      exact = λ x tup small. (
         λ there. to x (Contains-push_cases rows.rows tuple x there),
         λ either.
             from x tup either,
@@ -108,6 +111,10 @@ Listed-push slots rank rows new tuple listed is num same =
           ap (number slots) equal in omega (arith, e, num),
     )
 
+    bounded : (x : List IndId) → Contains rows.rows x ⊎ (tuple ≡ x) → IsBelow bound x
+    bounded x (inl early) = listed.bounded x early
+    bounded x (inr equal) = subst (IsBelow bound) equal low
+
     to : (x : List IndId) → Contains rows.rows x ⊎ (tuple ≡ x)
         → Contains rows.rows x ⊎ (rank ≤ number slots x) × (number slots x < rank + 1)
     to x (inl early) = inl early
@@ -123,146 +130,180 @@ Listed-push slots rank rows new tuple listed is num same =
         (number_tells slots rows.arity tuple x is tup (omega (arith, above, below, num)))
         (Contains-push rows.rows tuple)
 
+-- no tuple, where the next one is not below the bound
+pub Listed-skip : (slots bound rank : ℕ) (rows : Relation) (tuple : List IndId)
+    → IsListed slots bound rows rank → IsTuple slots rows.arity tuple → (¬ IsBelow bound tuple)
+    → number slots tuple ≡ rank → Listed slots bound rows rank (rank + 1) rows
+Listed-skip slots bound rank rows tuple listed is high num = record {
+  arity = refl;
+  listed = record {
+    rising = listed.rising;
+    tuples = λ x there. let one = listed.tuples x there in
+        (one.0, let less = one.1 in omega (arith, less));
+    bounded = listed.bounded;
+  };
+  exact = λ x tup small. (λ there. inl there, λ either. from x tup small either);
+}
+  where
+    from : (x : List IndId) → IsTuple slots rows.arity x → IsBelow bound x
+        → Contains rows.rows x ⊎ (rank ≤ number slots x) × (number slots x < rank + 1)
+        → Contains rows.rows x
+    from x tup small (inl early) = early
+    from x tup small (inr (above, below)) =
+        absurd (high (subst (IsBelow bound)
+        (number_tells slots rows.arity x tuple tup is (omega (arith, above, below, num))) small))
+
 -- more after those
-pub Listed-more : (slots start middle end : ℕ) (rows mid new : Relation) → start ≤ middle
-    → middle ≤ end → Listed slots rows start middle mid → Listed slots mid middle end new
-    → Listed slots rows start end new
-Listed-more slots start middle end rows mid new up on one other = record {
+pub Listed-more : (slots bound start middle end : ℕ) (rows mid new : Relation) → start ≤ middle
+    → middle ≤ end → Listed slots bound rows start middle mid
+    → Listed slots bound mid middle end new → Listed slots bound rows start end new
+Listed-more slots bound start middle end rows mid new up on one other = record {
   arity = other.arity ∙ one.arity;
   listed = other.listed;
-  exact = λ x tup. (
-    λ there. to x tup (((other.exact x (moved x tup)).0) there),
+  exact = λ x tup low. (
+    λ there. to x tup low (((other.exact x (moved x tup) low).0) there),
     λ either.
-        (other.exact x (moved x tup)).1 (from x tup either),
+        (other.exact x (moved x tup) low).1 (from x tup low either),
   );
 }
   where
     moved : (x : List IndId) → IsTuple slots rows.arity x → IsTuple slots mid.arity x
     moved x tup = subst (λ (k : ℕ). IsTuple slots k x) (sym one.arity) tup
 
-    to : (x : List IndId) → IsTuple slots rows.arity x
+    to : (x : List IndId) → IsTuple slots rows.arity x → IsBelow bound x
         → Contains mid.rows x ⊎ (middle ≤ number slots x) × (number slots x < end)
         → Contains rows.rows x ⊎ (start ≤ number slots x) × (number slots x < end)
-    to x tup (inl early) = elim ((one.exact x tup).0 early) [
+    to x tup low (inl early) = elim ((one.exact x tup low).0 early) [
       | inl before ↦ inl before
       | inr here ↦
           inr (here.0, (let less = here.1 in omega (arith, less, on)))
     ]
-    to x tup (inr (above, below)) = inr (omega (arith, above, up), below)
+    to x tup low (inr (above, below)) = inr (omega (arith, above, up), below)
 
-    from : (x : List IndId) → IsTuple slots rows.arity x
+    from : (x : List IndId) → IsTuple slots rows.arity x → IsBelow bound x
         → Contains rows.rows x ⊎ (start ≤ number slots x) × (number slots x < end)
         → Contains mid.rows x ⊎ (middle ≤ number slots x) × (number slots x < end)
-    from x tup (inl early) = inl ((one.exact x tup).1 (inl early))
-    from x tup (inr (above, below)) = elim (cases_lt (number slots x) middle) [
+    from x tup low (inl early) = inl ((one.exact x tup low).1 (inl early))
+    from x tup low (inr (above, below)) = elim (cases_lt (number slots x) middle) [
       | inl less ↦
-          inl ((one.exact x tup).1 (inr (above, less)))
+          inl ((one.exact x tup low).1 (inr (above, less)))
       | inr more ↦ inr (more, below)
     ]
 
--- the tuples of lower numbers at which a test holds
-pub record Gathers (slots arity : ℕ) (test : ℕ → Bool) (rows : Relation) (start : ℕ) : Type 0 where
+-- the tuples of lower numbers below the bound at which a test holds
+pub record Gathers (slots bound arity : ℕ) (test : ℕ → Bool) (rows : Relation)
+    (start : ℕ) : Type 0 where
   pub arity_is : rows.arity ≡ arity
-  pub listed : IsListed slots rows start
-  pub exact : (tuple : List IndId) → IsTuple slots arity tuple → number slots tuple < start
-      → Contains rows.rows tuple ↔ IsTrue (test (number slots tuple))
+  pub listed : IsListed slots bound rows start
+  pub exact : (tuple : List IndId) → IsTuple slots arity tuple → IsBelow bound tuple
+      → number slots tuple < start → Contains rows.rows tuple ↔ IsTrue (test (number slots tuple))
 
-pub Gathers-start : (slots arity : ℕ) (test : ℕ → Bool) (rows : Relation)
-    → rows ≡ record { arity = arity; rows = [] } → Gathers slots arity test rows 0
-Gathers-start slots arity test rows none =
-    subst (λ (r : Relation). Gathers slots arity test r 0) (sym none) (record {
+pub Gathers-start : (slots bound arity : ℕ) (test : ℕ → Bool) (rows : Relation)
+    → rows ≡ record { arity = arity; rows = [] } → Gathers slots bound arity test rows 0
+Gathers-start slots bound arity test rows none =
+    subst (λ (r : Relation). Gathers slots bound arity test r 0) (sym none) (record {
       arity_is = refl;
       listed = record {
         rising = λ i j d before within. absurd (omega (arith, within));
         tuples =
             λ x there. absurd (let l = there.1 in omega (arith, l));
+        bounded =
+            λ x there. absurd (let l = there.1 in omega (arith, l));
       };
-      exact = λ x tup below. absurd (omega (arith, below));
+      exact = λ x tup low below. absurd (omega (arith, below));
     })
 
 -- past tuples at which it holds, and past those at which it doesn't
-pub Gathers-held : (slots arity : ℕ) (test : ℕ → Bool) (rows new : Relation) (start end : ℕ)
-    → Gathers slots arity test rows start → Listed slots rows start end new
-    → ((n : ℕ) → start ≤ n → n < end → test n ≡ true) → Gathers slots arity test new end
-Gathers-held slots arity test rows new start end gathers listed each = record {
+pub Gathers-held : (slots bound arity : ℕ) (test : ℕ → Bool) (rows new : Relation) (start end : ℕ)
+    → Gathers slots bound arity test rows start → Listed slots bound rows start end new
+    → ((n : ℕ) → start ≤ n → n < end → test n ≡ true) → Gathers slots bound arity test new end
+Gathers-held slots bound arity test rows new start end gathers listed each = record {
   arity_is = listed.arity ∙ gathers.arity_is;
   listed = listed.listed;
-  exact = λ x tup below. (
-    λ there. to x tup below (cases_lt (number slots x) start)
-        ((listed.exact x (moved x tup)).0 there),
-    λ holds. (listed.exact x (moved x tup)).1
-        (from x tup below holds (cases_lt (number slots x) start)),
+  exact = λ x tup low below. (
+    λ there. to x tup low below (cases_lt (number slots x) start)
+        ((listed.exact x (moved x tup) low).0 there),
+    λ holds. (listed.exact x (moved x tup) low).1
+        (from x tup low below holds (cases_lt (number slots x) start)),
   );
 }
   where
     moved : (x : List IndId) → IsTuple slots arity x → IsTuple slots rows.arity x
     moved x tup = subst (λ (k : ℕ). IsTuple slots k x) (sym gathers.arity_is) tup
 
-    to : (x : List IndId) → IsTuple slots arity x → number slots x < end
+    to : (x : List IndId) → IsTuple slots arity x → IsBelow bound x → number slots x < end
         → (number slots x < start) ⊎ (start ≤ number slots x)
         → Contains rows.rows x ⊎ (start ≤ number slots x) × (number slots x < end)
         → IsTrue (test (number slots x))
-    to x tup below (inr late) either = each (number slots x) late below
-    to x tup below (inl early) (inl there) = (gathers.exact x tup early).0 there
-    to x tup below (inl early) (inr here) = absurd (let from = here.0 in omega (arith, early, from))
+    to x tup low below (inr late) either = each (number slots x) late below
+    to x tup low below (inl early) (inl there) = (gathers.exact x tup low early).0 there
+    to x tup low below (inl early) (inr here) =
+        absurd (let from = here.0 in omega (arith, early, from))
 
-    from : (x : List IndId) → IsTuple slots arity x → number slots x < end
+    from : (x : List IndId) → IsTuple slots arity x → IsBelow bound x → number slots x < end
         → IsTrue (test (number slots x)) → (number slots x < start) ⊎ (start ≤ number slots x)
         → Contains rows.rows x ⊎ (start ≤ number slots x) × (number slots x < end)
-    from x tup below holds (inl early) = inl ((gathers.exact x tup early).1 holds)
-    from x tup below holds (inr late) = inr (late, below)
+    from x tup low below holds (inl early) = inl ((gathers.exact x tup low early).1 holds)
+    from x tup low below holds (inr late) = inr (late, below)
 
-pub Gathers-passed : (slots arity : ℕ) (test : ℕ → Bool) (rows : Relation) (start end : ℕ)
-    → Gathers slots arity test rows start → start ≤ end
-    → ((n : ℕ) → start ≤ n → n < end → test n ≡ false) → Gathers slots arity test rows end
-Gathers-passed slots arity test rows start end gathers up each = record {
+pub Gathers-passed : (slots bound arity : ℕ) (test : ℕ → Bool) (rows : Relation) (start end : ℕ)
+    → Gathers slots bound arity test rows start → start ≤ end
+    → ((n : ℕ) → start ≤ n → n < end → test n ≡ false) → Gathers slots bound arity test rows end
+Gathers-passed slots bound arity test rows start end gathers up each = record {
   arity_is = gathers.arity_is;
   listed = record {
     rising = gathers.listed.rising;
     tuples = λ x there. let one =
         gathers.listed.tuples x there in (one.0, let less = one.1 in omega (arith, less, up));
+    bounded = gathers.listed.bounded;
   };
-  exact = λ x tup below. exact x tup below (cases_lt (number slots x) start);
+  exact = λ x tup low below. exact x tup low below (cases_lt (number slots x) start);
 }
   where
-    exact : (x : List IndId) → IsTuple slots arity x → number slots x < end
+    exact : (x : List IndId) → IsTuple slots arity x → IsBelow bound x → number slots x < end
         → (number slots x < start) ⊎ (start ≤ number slots x)
         → Contains rows.rows x ↔ IsTrue (test (number slots x))
-    exact x tup below (inl early) = gathers.exact x tup early
-    exact x tup below (inr late) = (
+    exact x tup low below (inl early) = gathers.exact x tup low early
+    exact x tup low below (inr late) = (
       λ there. let one = gathers.listed.tuples x there in
           absurd (let less = one.1 in omega (arith, less, late)),
       λ holds. absurd (true≢false (sym holds ∙ each (number slots x) late below)),
     )
 
--- the rows are exactly the tuples whose antichain holds
-pub Gathers-exact : (slots arity : ℕ) (links : List (List ℕ)) (runs : List Run) (v : Antichains)
-    (set : ℕ) (rows : Relation) (start : ℕ) → view_of slots arity links runs ≡ v
-    → start ≡ slots ^ arity → Gathers slots arity (λ n.
+-- the rows are exactly the tuples below the bound whose antichain holds
+pub Gathers-exact : (slots bound arity : ℕ) (links : List (List ℕ)) (runs : List Run)
+    (v : Antichains) (set : ℕ) (rows : Relation) (start : ℕ) → bound ≤ v.slots
+    → view_of slots arity links runs ≡ v
+    → start ≡ slots ^ arity → Gathers slots bound arity (λ n.
     holds (antichain_at links runs n) set) rows start → (tuple : List IndId)
-    → Contains rows.rows tuple ↔ IsTuple v.slots v.arity tuple × IsTrue (holds (at v tuple) set)
-Gathers-exact slots arity links runs v set rows start view all gathers =
+    → Contains rows.rows tuple ↔ IsTuple bound v.arity tuple × IsTrue (holds (at v tuple) set)
+Gathers-exact slots bound arity links runs v set rows start within view all gathers =
     subst (λ (w : Antichains). (tuple : List IndId)
-    → Contains rows.rows tuple ↔ IsTuple w.slots w.arity tuple
+    → Contains rows.rows tuple ↔ IsTuple bound w.arity tuple
     × IsTrue (holds (at w tuple) set)) view (λ tuple.
     (to tuple, λ (is, held). from tuple is held))
   where
+    less : bound ≤ slots
+    less = subst (λ (w : Antichains). bound ≤ w.slots) (sym view) within
+
     to : (tuple : List IndId) → Contains rows.rows tuple
-        → IsTuple slots arity tuple × IsTrue (holds (at (view_of slots arity links runs) tuple) set)
+        → IsTuple bound arity tuple × IsTrue (holds (at (view_of slots arity links runs) tuple) set)
     to tuple there =
         let one = gathers.listed.tuples tuple there in
+        let low = gathers.listed.bounded tuple there in
         let is : IsTuple slots arity tuple =
         subst (λ (k : ℕ). IsTuple slots k tuple) gathers.arity_is one.0 in (
-          is,
+          (is.0, low),
           subst (λ (antichain : List ℕ).
               IsTrue (holds antichain set)) (sym (at_view slots arity links runs tuple is))
-              ((gathers.exact tuple is one.1).0 there),
+              ((gathers.exact tuple is low one.1).0 there),
         )
 
-    from : (tuple : List IndId) → IsTuple slots arity tuple
+    from : (tuple : List IndId) → IsTuple bound arity tuple
         → IsTrue (holds (at (view_of slots arity links runs) tuple) set) → Contains rows.rows tuple
-    from tuple is held =
-        (gathers.exact tuple is (let below = tuple_below slots arity tuple is in
+    from tuple low held =
+        let is : IsTuple slots arity tuple = wider bound slots arity tuple less low in
+        (gathers.exact tuple is low.1 (let below = tuple_below slots arity tuple is in
         omega (arith, below, all))).1
         (subst (λ (antichain : List ℕ).
         IsTrue (holds antichain set)) (at_view slots arity links runs tuple is) held)

@@ -1,4 +1,4 @@
--- A table over one slot more.
+-- A table over more slots.
 use Rattle.std.proofs.Common.{◌≡◌, ℕ, zero, suc, ◌+◌, ◌-◌, ◌*◌, ◌^◌, ◌<◌, ◌≤◌, List, [], ◌∷◌}
 use Rattle.std.proofs.Common.{length, min, refl, sym, ◌∙◌, ap, subst, arith, zero-add}
 use Rattle.std.specs.Prelude.{All, slice_index_or}
@@ -77,49 +77,52 @@ narrowed_same slots (i ∷ t) all =
     ap (λ (n : ℕ). (record { 0 = n }) ∷ narrowed slots t) same ∙ ap (λ (ts : List IndId).
     i ∷ ts) (narrowed_same slots t (tail slots i t all))
 
-pub wider : (slots arity : ℕ) (t : List IndId) → IsTuple slots arity t → IsTuple (slots + 1) arity t
-wider slots arity t is = (is.0, λ k d within. let less = is.1 k d within in omega (arith, less))
+pub wider : (slots wide arity : ℕ) (t : List IndId) → slots ≤ wide → IsTuple slots arity t
+    → IsTuple wide arity t
+wider slots wide arity t more is =
+    (is.0, λ k d within. let less = is.1 k d within in omega (arith, less, more))
 
-module _ (slots arity : ℕ) (links : List (List ℕ)) (runs before new : List Run) (some : 0 < slots)
+module _ (slots wide arity : ℕ) (more : slots ≤ wide) (links : List (List ℕ))
+    (runs before new : List Run) (some : 0 < slots)
     (are : AreRuns slots arity links runs) (used : AreUsed (slots ^ arity) (length links) runs)
-    (few : (slots + 1) ^ arity ≤ 2 ^ 60) (none : before
-    ≡ []) (so : Spread runs (place_weights slots arity) (slots + 1) (slots - 1) 0 0 before new)
+    (few : wide ^ arity ≤ 2 ^ 60) (none : before
+    ≡ []) (so : Spread runs (place_weights slots arity) wide (slots - 1) 0 0 before new)
   where
-    at_new : (t : List IndId) → IsTuple (slots + 1) arity t
-        → link_at new (number (slots + 1) t) ≡ link_at runs (number slots (narrowed slots t))
+    at_new : (t : List IndId) → IsTuple wide arity t
+        → link_at new (number wide t) ≡ link_at runs (number slots (narrowed slots t))
     at_new t is = ap (link_at new) (omega arith) ∙ so.each t
         (is.0 ∙ sym (length_place slots arity), is.1) ∙ ap (link_at runs)
         (omega (arith, weighed_place slots arity t is.0))
 
-    pub AreRuns-wider : AreRuns (slots + 1) arity links new
+    pub AreRuns-wider : AreRuns wide arity links new
     AreRuns-wider = record {
       rise = so.rise;
-      ends = so.ends ∙ zero-add ((slots + 1) ^ length (place_weights slots arity)) ∙ ap (λ (m : ℕ).
-          (slots + 1) ^ m) (length_place slots arity);
+      ends = so.ends ∙ zero-add (wide ^ length (place_weights slots arity)) ∙ ap (λ (m : ℕ).
+          wide ^ m) (length_place slots arity);
       few = few;
       named = so.named (length links) are.named
           (subst (NamedBelow (length links)) (sym none) (λ k d within.
           absurd (omega (arith, within))));
     }
 
-    pub AreUsed-wider : AreUsed ((slots + 1) ^ arity) (length links) new
+    pub AreUsed-wider : AreUsed (wide ^ arity) (length links) new
     AreUsed-wider i within =
         let n = used i within in
         let found = tuple_at slots arity n.0 n.1 in
-        let is : IsTuple (slots + 1) arity found.0 = wider slots arity found.0 found.1 in (
-          number (slots + 1) found.0,
-          tuple_below (slots + 1) arity found.0 is,
+        let is : IsTuple wide arity found.0 = wider slots wide arity found.0 more found.1 in (
+          number wide found.0,
+          tuple_below wide arity found.0 is,
           at_new found.0 is ∙ ap (λ (t : List IndId).
               link_at runs (number slots t)) (narrowed_same slots found.0 found.1.1) ∙ ap
               (link_at runs) found.2 ∙ n.2,
         )
 
-    pub at_wider : (t v : Antichains) → t ≡ view_of (slots + 1) arity links new
+    pub at_wider : (t v : Antichains) → t ≡ view_of wide arity links new
         → view_of slots arity links runs ≡ v → (tuple : List IndId)
-        → IsTuple (slots + 1) arity tuple
+        → IsTuple wide arity tuple
         → at t tuple ≡ at v (narrowed slots tuple)
     at_wider t v is view tuple tup =
-        ap (λ (w : Antichains). at w tuple) is ∙ at_view (slots + 1) arity links new tuple tup ∙ ap
+        ap (λ (w : Antichains). at w tuple) is ∙ at_view wide arity links new tuple tup ∙ ap
         (λ (k : ℕ). slice_index_or links k []) (at_new tuple tup)
         ∙ sym (at_view slots arity links runs (narrowed slots tuple)
         (narrowed_tuple slots arity tuple some tup.0)) ∙ ap (λ (w : Antichains).

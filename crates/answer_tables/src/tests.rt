@@ -109,10 +109,18 @@ fn holds_where_the_second_is_zero(rt: HostRuntime) {
 #[test]
 fn lists_where_it_holds(rt: HostRuntime) {
     let table = second_is_zero(rt.alloc()).expect(&rt, "memory");
-    let tuples = table.tuples_holding(rt.alloc(), 0).expect(&rt, "memory");
+    let tuples = table.tuples_holding(rt.alloc(), 0, 3).expect(&rt, "memory");
     assert!(rt; tuples.len() == 3);
     assert!(rt; tuples.row(0) == [IndId(0), IndId(0)].as_slice());
     assert!(rt; tuples.row(2) == [IndId(2), IndId(0)].as_slice());
+}
+
+#[test]
+fn leaves_out_the_last(rt: HostRuntime) {
+    let table = second_is_zero(rt.alloc()).expect(&rt, "memory");
+    let tuples = table.tuples_holding(rt.alloc(), 0, 2).expect(&rt, "memory");
+    assert!(rt; tuples.len() == 2);
+    assert!(rt; tuples.row(1) == [IndId(1), IndId(0)].as_slice());
 }
 
 #[test]
@@ -176,7 +184,7 @@ fn reads_runs(rt: HostRuntime) {
 #[test]
 fn widens_by_the_last_slot(rt: HostRuntime) {
     let table = first_and_others(rt.alloc(), &[1], &[]).expect(&rt, "memory");
-    let wider = table.widen(rt.alloc()).expect(&rt, "memory");
+    let wider = table.widen(rt.alloc(), 1).expect(&rt, "memory");
     assert!(rt; has(&wider, 0, &[1]));
     assert!(rt; has(&wider, 1, &[]));
     assert!(rt; has(&wider, 3, &[]));

@@ -1,4 +1,4 @@
-//! A table over one slot more.
+//! A table over more slots.
 
 ghost use Rattle.std.specs.Prelude.{◌≡◌, ◌+◌, ◌<◌, ◌≤◌, ◌^◌, List, IfOk};
 ghost use Rattle.dl_syntax.specs.declared.names.IndId.{IndId};
@@ -27,16 +27,16 @@ fn weights_of_places(alloc: Global, slots: u32, arity: u8) -> Result<Vec<u64>, M
 }
 
 impl Table {
-    /// The table over one slot more, in which the new last slot stands for what the old last slot
+    /// The table over so many slots more, in which each new slot stands for what the old last slot
     /// stood for. At tuples of old slots it is as before.
-    pub fn widen(&self, alloc: Global) -> Result<Table, Memory>
+    pub fn widen(&self, alloc: Global, more: u32) -> Result<Table, Memory>
         requires some { 0 < self.now.slots }
-        requires more { self.now.slots < 4294967295 }
-        requires few { (self.now.slots + 1) ^ self.now.arity ≤ 2 ^ 60 }
-        ensures slots { IfOk result (λ t. t.slots ≡ self.now.slots + 1) }
+        requires small { self.now.slots + more ≤ 4294967295 }
+        requires few { (self.now.slots + more) ^ self.now.arity ≤ 2 ^ 60 }
+        ensures slots { IfOk result (λ t. t.slots ≡ self.now.slots + more) }
         ensures arity { IfOk result (λ t. t.arity ≡ self.now.arity) }
         ensures each { IfOk result (λ t. (tuple : List IndId)
-            → IsTuple (self.now.slots + 1) self.now.arity tuple
+            → IsTuple (self.now.slots + more) self.now.arity tuple
             → at t tuple ≡ at self.now (narrowed self.now.slots tuple)) }
         ensures old { IfOk result (λ t. (tuple : List IndId)
             → IsTuple self.now.slots self.now.arity tuple → at t tuple ≡ at self.now tuple) }
@@ -48,7 +48,7 @@ impl Table {
             old.as_slice(),
             weights.as_slice(),
             self.arity,
-            self.slots + 1,
+            self.slots + more,
             self.slots - 1,
             0,
             0,
@@ -56,7 +56,7 @@ impl Table {
         )?;
         Table::from_parts(
             alloc,
-            self.slots + 1,
+            self.slots + more,
             self.arity,
             self.links.as_slice(),
             runs.as_slice(),

@@ -73,12 +73,14 @@ loop-place-preserved c =
     record {
       gathers = elim c.if-holds.branch [
         | then-holds+in_ok-push_tuples w ↦
-            subst (λ (r : Relation). Gathers slots arity test r end) (sym w.rows-is)
-            (Gathers-held slots arity test c.loop-place.rows w.push_tuples.new.rows start end
+            subst (λ (r : Relation). Gathers slots c.args.bound arity test r end) (sym w.rows-is)
+            (Gathers-held slots c.args.bound arity test c.loop-place.rows w.push_tuples.new.rows
+            start end
             c.loop-place.invariant.gathers w.in_ok-push_tuples.ensures (λ n from below.
             told n from below ∙ w.if-holds.true))
-        | else-holds w ↦ subst (λ (r : Relation). Gathers slots arity test r end) (sym w.rows-is)
-            (Gathers-passed slots arity test c.loop-place.rows start end
+        | else-holds w ↦ subst (λ (r : Relation). Gathers slots c.args.bound arity test r end)
+            (sym w.rows-is)
+            (Gathers-passed slots c.args.bound arity test c.loop-place.rows start end
             c.loop-place.invariant.gathers up (λ n from below.
             told n from below ∙ w.if-holds.false))
       ];
@@ -99,7 +101,7 @@ returns-clause-exact c =
       ap (λ (rs : List Run).
           length rs) c.deref.ensures,
     )) in
-    Gathers-exact slots arity c.self.inside.links.items runs c.args.self.now c.args.set
-    c.loop-place.rows c.loop-place.start c.self.view_is
+    Gathers-exact slots c.args.bound arity c.self.inside.links.items runs c.args.self.now
+    c.args.set c.loop-place.rows c.loop-place.start c.requires c.self.view_is
     (Rest-end runs c.loop-place.place c.loop-place.start (slots ^ arity)
     c.loop-place.invariant.rest past) c.loop-place.invariant.gathers

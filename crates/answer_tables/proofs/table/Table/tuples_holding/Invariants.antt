@@ -7,7 +7,7 @@ use Rattle.answer_tables.proofs.table.Table.tuples_holding.Given as goal
 
 abbrev pub invariant-loop-place : goal.invariant-loop-place
 invariant-loop-place l = record {
-  gathers : Gathers l.self-inside.slots l.self-inside.arity (λ n.
+  gathers : Gathers l.self-inside.slots l.bound l.self-inside.arity (λ n.
       holds (antichain_at l.self-inside.links.items l.self-inside.ranks.value n) l.set) l.rows
       l.start;
   rest : Rest l.self-inside.ranks.value l.place l.start (l.self-inside.slots ^ l.self-inside.arity);

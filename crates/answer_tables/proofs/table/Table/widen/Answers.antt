@@ -50,18 +50,21 @@ from_parts-requires-clause-are c =
     let new = c.spread.new.new.items in
     let some : 0 < slots = subst (λ (v : Antichains).
     0 < v.slots) (sym c.self.view_is) c.requires.some in
-    let few : (slots + 1) ^ arity ≤ 2 ^ 60 =
-    subst (λ (v : Antichains). (v.slots + 1) ^ v.arity ≤ 2 ^ 60) (sym c.self.view_is)
+    let few : (slots + c.args.more) ^ arity ≤ 2 ^ 60 =
+    subst (λ (v : Antichains). (v.slots + c.args.more) ^ v.arity ≤ 2 ^ 60) (sym c.self.view_is)
     c.requires.few in
-    let so : Spread runs (place_weights slots arity) (slots + 1) (slots - 1) 0 0 before new =
-    subst (λ (ws : List ℕ). Spread runs ws (slots + 1) (slots - 1) 0 0 before new)
+    let so : Spread runs (place_weights slots arity) (slots + c.args.more) (slots - 1) 0 0 before
+    new =
+    subst (λ (ws : List ℕ). Spread runs ws (slots + c.args.more) (slots - 1) 0 0 before new)
     (c.as_slice-2.ensures.value ∙ c.in_ok-weights.ensures)
-    (subst (λ (rs : List Run). Spread rs c.as_slice-2.result.now (slots + 1) (slots - 1) 0 0 before
+    (subst (λ (rs : List Run). Spread rs c.as_slice-2.result.now (slots + c.args.more) (slots - 1)
+    0 0 before
     new) (c.as_slice.ensures.value) c.in_ok-spread.ensures) in
-    subst (λ (l : List (List ℕ)). AreRuns (slots + 1) arity l c.as_slice-4.result.now)
+    subst (λ (l : List (List ℕ)). AreRuns (slots + c.args.more) arity l c.as_slice-4.result.now)
     (sym c.as_slice-3.ensures.value)
-    (subst (AreRuns (slots + 1) arity links) (sym c.as_slice-4.ensures.value)
-    (AreRuns-wider slots arity links runs before new some are used few c.new-runs.ensures.items
+    (subst (AreRuns (slots + c.args.more) arity links) (sym c.as_slice-4.ensures.value)
+    (AreRuns-wider slots (slots + c.args.more) arity (omega arith) links runs before new some are
+    used few c.new-runs.ensures.items
     so))
 
 pub from_parts-requires-clause-used : goal.from_parts-requires-clause-used
@@ -81,18 +84,22 @@ from_parts-requires-clause-used c =
     let new = c.spread.new.new.items in
     let some : 0 < slots = subst (λ (v : Antichains).
     0 < v.slots) (sym c.self.view_is) c.requires.some in
-    let few : (slots + 1) ^ arity ≤ 2 ^ 60 =
-    subst (λ (v : Antichains). (v.slots + 1) ^ v.arity ≤ 2 ^ 60) (sym c.self.view_is)
+    let few : (slots + c.args.more) ^ arity ≤ 2 ^ 60 =
+    subst (λ (v : Antichains). (v.slots + c.args.more) ^ v.arity ≤ 2 ^ 60) (sym c.self.view_is)
     c.requires.few in
-    let so : Spread runs (place_weights slots arity) (slots + 1) (slots - 1) 0 0 before new =
-    subst (λ (ws : List ℕ). Spread runs ws (slots + 1) (slots - 1) 0 0 before new)
+    let so : Spread runs (place_weights slots arity) (slots + c.args.more) (slots - 1) 0 0 before
+    new =
+    subst (λ (ws : List ℕ). Spread runs ws (slots + c.args.more) (slots - 1) 0 0 before new)
     (c.as_slice-2.ensures.value ∙ c.in_ok-weights.ensures)
-    (subst (λ (rs : List Run). Spread rs c.as_slice-2.result.now (slots + 1) (slots - 1) 0 0 before
+    (subst (λ (rs : List Run). Spread rs c.as_slice-2.result.now (slots + c.args.more) (slots - 1)
+    0 0 before
     new) (c.as_slice.ensures.value) c.in_ok-spread.ensures) in
-    subst (λ (l : List (List ℕ)). AreUsed ((slots + 1) ^ arity) (length l) c.as_slice-4.result.now)
+    subst (λ (l : List (List ℕ)). AreUsed ((slots + c.args.more) ^ arity) (length l)
+    c.as_slice-4.result.now)
     (sym c.as_slice-3.ensures.value)
-    (subst (AreUsed ((slots + 1) ^ arity) (length links)) (sym c.as_slice-4.ensures.value)
-    (AreUsed-wider slots arity links runs before new some are used few c.new-runs.ensures.items
+    (subst (AreUsed ((slots + c.args.more) ^ arity) (length links)) (sym c.as_slice-4.ensures.value)
+    (AreUsed-wider slots (slots + c.args.more) arity (omega arith) links runs before new some are
+    used few c.new-runs.ensures.items
     so))
 
 pub returns-clause-each : goal.returns-clause-each
@@ -112,29 +119,35 @@ returns-clause-each c =
     let new = c.spread.new.new.items in
     let some : 0 < slots = subst (λ (v : Antichains).
     0 < v.slots) (sym c.self.view_is) c.requires.some in
-    let few : (slots + 1) ^ arity ≤ 2 ^ 60 =
-    subst (λ (v : Antichains). (v.slots + 1) ^ v.arity ≤ 2 ^ 60) (sym c.self.view_is)
+    let few : (slots + c.args.more) ^ arity ≤ 2 ^ 60 =
+    subst (λ (v : Antichains). (v.slots + c.args.more) ^ v.arity ≤ 2 ^ 60) (sym c.self.view_is)
     c.requires.few in
-    let so : Spread runs (place_weights slots arity) (slots + 1) (slots - 1) 0 0 before new =
-    subst (λ (ws : List ℕ). Spread runs ws (slots + 1) (slots - 1) 0 0 before new)
+    let so : Spread runs (place_weights slots arity) (slots + c.args.more) (slots - 1) 0 0 before
+    new =
+    subst (λ (ws : List ℕ). Spread runs ws (slots + c.args.more) (slots - 1) 0 0 before new)
     (c.as_slice-2.ensures.value ∙ c.in_ok-weights.ensures)
-    (subst (λ (rs : List Run). Spread rs c.as_slice-2.result.now (slots + 1) (slots - 1) 0 0 before
+    (subst (λ (rs : List Run). Spread rs c.as_slice-2.result.now (slots + c.args.more) (slots - 1)
+    0 0 before
     new) (c.as_slice.ensures.value) c.in_ok-spread.ensures) in
     let slots_is : slots ≡ c.args.self.now.slots =
     ap (λ (v : Antichains). v.slots) c.self.view_is in
     IfOk-weaker c.from_parts.result _ _ (λ (t : Antichains) is tuple tup.
-    at_wider slots arity links runs before new some are used few c.new-runs.ensures.items so t
+    at_wider slots (slots + c.args.more) arity (omega arith) links runs before new some are used
+    few c.new-runs.ensures.items so t
     c.args.self.now
-    (is ∙ ap (λ (l : List (List ℕ)). view_of (slots + 1) arity l c.as_slice-4.result.now)
-    c.as_slice-3.ensures.value ∙ ap (view_of (slots + 1) arity links)
+    (is ∙ ap (λ (l : List (List ℕ)). view_of (slots + c.args.more) arity l c.as_slice-4.result.now)
+    c.as_slice-3.ensures.value ∙ ap (view_of (slots + c.args.more) arity links)
     c.as_slice-4.ensures.value) (view_alike slots arity links c.self.inside.ranks.value runs
     alike c.self.invariant.are ∙ c.self.view_is) tuple
-    (subst (λ (v : Antichains). IsTuple (v.slots + 1) v.arity tuple) (sym c.self.view_is) tup)
+    (subst (λ (v : Antichains). IsTuple (v.slots + c.args.more) v.arity tuple) (sym c.self.view_is)
+    tup)
     ∙ ap (λ (s : ℕ). at c.args.self.now (narrowed s tuple)) slots_is) c.from_parts.ensures
 
 pub returns-clause-old : goal.returns-clause-old
 returns-clause-old c =
     let each = returns-clause-each c in
     IfOk-weaker c.from_parts.result _ _ (λ (t : Antichains) all tuple tup.
-    all tuple (wider c.args.self.now.slots c.args.self.now.arity tuple tup)
+    all tuple (wider c.args.self.now.slots (c.args.self.now.slots + c.args.more)
+    c.args.self.now.arity
+    tuple (omega arith) tup)
     ∙ ap (at c.args.self.now) (narrowed_same c.args.self.now.slots tuple tup.1)) each
