@@ -15,7 +15,7 @@ mod Ranks
 mod Counting
 mod Substitutions
 mod Spreads
-mod Widening
+pub mod Widening
 mod Orders
 mod Marking
 mod Parts

@@ -1,5 +1,6 @@
 -- What is kept after one more snapshot stands for the history with it.
-use Rattle.std.proofs.Common.{◌≡◌, ℕ, ◌+◌, ◌-◌, ◌<◌, ◌^◌, min, Bool, true, false, List, [], ◌∷◌}
+use Rattle.std.proofs.Common.{◌≡◌, ℕ, ◌+◌, ◌-◌, ◌<◌, ◌≤◌, ◌^◌, min, Bool, true, false, List, []}
+use Rattle.std.proofs.Common.{◌∷◌}
 use Rattle.std.proofs.Common.{◌++◌, length, map, refl, sym, ◌∙◌, ap, subst, arith, inl, inr}
 use Rattle.std.proofs.Common.{length-append, eq-eqb}
 use Rattle.std.specs.Prelude.{◌↔◌, Result, Ok, Err, IfOk, Some, slice_get, slice_index_or, nat_eq}
@@ -35,6 +36,7 @@ use Rattle.answer_tables.specs.Tuples.{IsTuple}
 use Rattle.answer_tables.specs.Table.{Antichains, at}
 use Rattle.answer_tables.specs.Combining.{LinksAreIn}
 use Rattle.answer_tables.specs.Substituting.{HaveShape}
+use Rattle.answer_tables.proofs.Widening.{wider}
 use Rattle.progression.specs.declared.kept.Kept.{Kept}
 use Rattle.progression.specs.Step.{Stands, is_past, kept_place, HasNumberBelow, OwnIn, KeptStands}
 use Rattle.progression.specs.Tables.{no_table, table_at, kept_table, KeptShape, HaveLeaves}
@@ -298,22 +300,26 @@ module _ (query : Tcq) (valid : IsTcq query.vars query.nodes) (slots : ℕ) (kep
             (node_stands row tup e.0 is.0))) new.tables.items kept_of.each;
       }
 
-      pub Advances-next : (weak : ℕ) → weak < 256 → IsWeakSet nodes weak
-          → (rows : List (List IndId)) → IsRising rows
-          → ((row : List IndId) → Contains rows row ↔ IsTuple slots query.vars row
+      pub Advances-next : (below : ℕ) → below ≤ slots → (weak : ℕ) → weak < 256
+          → IsWeakSet nodes weak → (rows : List (List IndId)) → IsRising rows
+          → ((row : List IndId) → Contains rows row ↔ IsTuple below query.vars row
           × (holds (at (table_at tables (length nodes - 1)) row) weak ≡ true))
-          → Advances inclusions slots grown query new rows
-      Advances-next weak small is_weak rows rising member = record {
+          → Advances inclusions (record { kept = slots; answered = below }) grown query new rows
+      Advances-next below few weak small is_weak rows rising member = record {
         stands = StandsFor-next;
         answers = record {
           rising = rising;
           member = λ row. (
-            λ there. let is = (member row).0 there in (is.0, (root row is.0).0 is.1),
-            λ is. (member row).1 (is.0, (root row is.0).1 is.1),
+            λ there. let is = (member row).0 there in (is.0, (root row (inside row is.0)).0 is.1),
+            λ is. (member row).1 (is.0, (root row (inside row is.0)).1 is.1),
           );
         };
       }
         where
+          inside : (row : List IndId) → IsTuple below query.vars row
+              → IsTuple slots query.vars row
+          inside row is = wider below slots query.vars row few is
+
           root : (row : List IndId) → IsTuple slots query.vars row
               → (holds (at (table_at tables (length nodes - 1)) row) weak ≡ true)
               ↔ Holds inclusions grown row (root_of query) (length grown.snapshots - 1)
@@ -380,16 +386,18 @@ stored_next nodes slots arity first kept leaves list tables entries made kept_of
     (λ e is. subst (λ (t : Antichains). LinksAreIn t list) (sym is.2)
     (made.stored e.0 no_table (omega (arith, is.0, made.many)))) entries kept_of.each
 
-pub root_read : {E : Type 0} (query : Tcq) (slots : ℕ) (tables : List Antichains)
+pub root_read : {E : Type 0} (query : Tcq) (slots below : ℕ) (tables : List Antichains)
     (shape : HaveShape slots query.vars tables) (root : Antichains) (weak : ℕ)
     (r : Result Relation E) → root ≡ table_at tables (length query.nodes - 1)
     → length query.nodes - 1 < length tables → weak < 256 → IsWeakSet query.nodes weak
     → IfOk r (λ rows. rows.arity ≡ root.arity) → IfOk r (λ rows. IsRising rows.rows)
     → IfOk r (λ rows. (tuple : List IndId)
-    → Contains rows.rows tuple ↔ IsTuple root.slots root.arity tuple
-    × (holds (at root tuple) weak ≡ true)) → IfOk r (AreRootRows query slots tables)
-root_read query slots tables shape root weak (Err e) is within small is_weak arity rising exact = tt
-root_read query slots tables shape root weak (Ok rows) is within small is_weak arity rising exact =
+    → Contains rows.rows tuple ↔ IsTuple below root.arity tuple
+    × (holds (at root tuple) weak ≡ true)) → IfOk r (AreRootRows query below tables)
+root_read query slots below tables shape root weak (Err e) is within small is_weak arity rising
+    exact = tt
+root_read query slots below tables shape root weak (Ok rows) is within small is_weak arity rising
+    exact =
     record {
       weak = weak;
       small = small;
@@ -397,20 +405,15 @@ root_read query slots tables shape root weak (Ok rows) is within small is_weak a
       arity = arity ∙ arity_is;
       rising = rising;
       member = λ row.
-          subst (λ (t : Antichains). Contains rows.rows row ↔ IsTuple slots query.vars row
+          subst (λ (t : Antichains). Contains rows.rows row ↔ IsTuple below query.vars row
           × (holds (at t row) weak ≡ true)) is
-          (subst (λ (k : ℕ). Contains rows.rows row ↔ IsTuple slots k row
-          × (holds (at root row) weak ≡ true)) arity_is
-          (subst (λ (s : ℕ). Contains rows.rows row ↔ IsTuple s root.arity row
-          × (holds (at root row) weak ≡ true)) slots_is (exact row)));
+          (subst (λ (k : ℕ). Contains rows.rows row ↔ IsTuple below k row
+          × (holds (at root row) weak ≡ true)) arity_is (exact row));
     }
   where
     shape_is : (root.slots ≡ slots) × (root.arity ≡ query.vars)
     shape_is = subst (λ (t : Antichains). (t.slots ≡ slots)
         × (t.arity ≡ query.vars)) (sym is) (shape (length query.nodes - 1) no_table within)
-
-    slots_is : root.slots ≡ slots
-    slots_is = shape_is.0
 
     arity_is : root.arity ≡ query.vars
     arity_is = shape_is.1

@@ -22,6 +22,7 @@ use Rattle.antichains.specs.Sets.{holds}
 use Rattle.answer_tables.specs.Tuples.{IsTuple}
 use Rattle.answer_tables.specs.Table.{Antichains, at}
 use Rattle.progression.specs.declared.kept.Kept.{Kept}
+use Rattle.progression.specs.declared.kept.Slots.{Slots}
 use Rattle.progression.specs.Tables.{leaves_of, IsOverLeaf, table_at}
 
 -- a table for a kept node: it is over the query's tuples of numbers below the slots, and its sets
@@ -88,12 +89,13 @@ pub record AreSlotAnswers (inclusions : List Inclusion) (slots : ℕ) (query : T
 
 -- what is kept after one more snapshot, and the rows, if what was kept stood for a history and the
 -- leaves' relations are their answers at the snapshot
-pub record Advances (inclusions : List Inclusion) (slots : ℕ) (history : History) (query : Tcq)
+pub record Advances (inclusions : List Inclusion) (slots : Slots) (history : History) (query : Tcq)
     (kept : Kept) (rows : List (List IndId)) : Type 0 where
-  pub stands : StandsFor inclusions slots history query kept
-  pub answers : AreSlotAnswers inclusions slots query history rows
+  pub stands : StandsFor inclusions slots.kept history query kept
+  pub answers : AreSlotAnswers inclusions slots.answered query history rows
 
--- the rows at which the table of the root holds of the weak nodes, in rising order
+-- the rows of numbers below the slots at which the table of the root holds of the weak nodes, in
+-- rising order
 pub record AreRootRows (query : Tcq) (slots : ℕ) (tables : List Antichains)
     (relation : Relation) : Type 0 where
   pub weak : ℕ

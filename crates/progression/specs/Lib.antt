@@ -1,3 +1,4 @@
 pub mod Step
 pub mod Tables
 pub mod Kept
+pub mod Widening

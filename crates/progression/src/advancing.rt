@@ -15,7 +15,7 @@ ghost use Rattle.answer_tables.specs.Substituting.{HaveShape};
 
 use crate::Memory;
 use crate::keep::kept_tables;
-use crate::kept::Kept;
+use crate::kept::{Kept, Slots};
 use crate::step::node_tables;
 use crate::weak::weak_set;
 use answer_tables::{Made, Table};
@@ -56,46 +56,49 @@ fn query_tables(
     )
 }
 
-/// The rows at which the root holds, if nothing more comes.
-fn root_rows(alloc: Global, query: &Query, slots: u32, tables: &[Table]) -> Result<Tuples, Memory>
+/// The rows of numbers below those answered at which the root holds, if nothing more comes.
+fn root_rows(alloc: Global, query: &Query, slots: Slots, tables: &[Table]) -> Result<Tuples, Memory>
     requires long { length tables.now ≡ length query.now.nodes }
-    requires shape { HaveShape slots query.now.vars tables.now }
-    ensures { IfOk result (AreRootRows query.now slots tables.now) }
+    requires shape { HaveShape slots.kept query.now.vars tables.now }
+    requires within { slots.answered ≤ slots.kept }
+    ensures { IfOk result (AreRootRows query.now slots.answered tables.now) }
 {
     let nodes = query.nodes();
     let weak = weak_set(nodes);
-    tables[nodes.len() - 1].tuples_holding(alloc, weak)
+    tables[nodes.len() - 1].tuples_holding(alloc, weak, slots.answered)
 }
 
 /// What is kept of a query after one more snapshot, and the query's answers then. `leaves` are the
-/// certain answers of the query's leaves at the snapshot, in the order of the table. The numbers
-/// of a tuple are below `slots`. `made` is what was made of the query before: tables made of the
-/// same again are shared.
+/// certain answers of the query's leaves at the snapshot, in the order of the table. What is kept
+/// is kept of the tuples of numbers below the slots kept, and those answered are the tuples of
+/// numbers below the slots answered: rows with others are never made. `made` is what was made of
+/// the query before: tables made of the same again are shared.
 pub fn advance(
     alloc: Global,
     query: &Query,
-    slots: u32,
+    slots: Slots,
     kept: &Kept,
     leaves: &[Tuples],
     made: &mut Made,
     store: &mut Store,
 ) -> Result<(Kept, Tuples), Memory>
-    requires fits { Fits query.now slots kept.now }
-    requires few { slots ^ query.now.vars ≤ 2 ^ 60 }
+    requires fits { Fits query.now slots.kept kept.now }
+    requires few { slots.kept ^ query.now.vars ≤ 2 ^ 60 }
+    requires within { slots.answered ≤ slots.kept }
     requires leaves { AreOverLeaves query.now leaves.now }
-    ensures fits { IfOk result (λ r. Fits query.now slots r.0) }
+    ensures fits { IfOk result (λ r. Fits query.now slots.kept r.0) }
     ensures count { IfOk result (λ r. r.0.count ≡ min (kept.now.count + 1) (2 ^ 64 - 1)) }
-    ensures rows { IfOk result (λ r. AreRows query.now slots r.1) }
+    ensures rows { IfOk result (λ r. AreRows query.now slots.answered r.1) }
     ensures advances { IfOk result (λ r.
         (inclusions : List Inclusion) (history : History) (snapshot : List Fact)
-        → StandsFor inclusions slots history query.now kept.now
+        → StandsFor inclusions slots.kept history query.now kept.now
         → AreLeafAnswers inclusions snapshot query.now leaves.now
         → Advances inclusions slots (with_snapshot snapshot history) query.now r.0 r.1.rows) }
     ensures stored { IfOk result (λ r.
         All (λ entry. LinksAreIn entry.1 store.new) r.0.tables.items) }
     ensures grown { Extends store.old store.new }
 {
-    let tables = query_tables(alloc, query, slots, kept, leaves, made, store)?;
+    let tables = query_tables(alloc, query, slots.kept, kept, leaves, made, store)?;
     let rows = root_rows(alloc, query, slots, tables.as_slice())?;
     let tables = kept_tables(alloc, query, tables)?;
     let count = kept.count.saturating_add(1);

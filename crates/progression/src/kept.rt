@@ -18,6 +18,15 @@ pub struct Kept {
     pub tables: Vec<(u16, Table)>,
 }
 
+/// The numbers that a tuple may have.
+#[derive(Clone, Copy)]
+pub struct Slots {
+    /// Tuples of numbers below are kept.
+    pub kept: u32,
+    /// Tuples of numbers below are answered.
+    pub answered: u32,
+}
+
 /// What is kept of any query before the first snapshot.
 pub fn start(alloc: Global) -> Kept
     ensures fits { (query : Tcq) (slots : ℕ) → Fits query slots result }

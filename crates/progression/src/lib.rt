@@ -1,4 +1,5 @@
-//! One step of a query: what is kept of it, and its answers, after one more snapshot.
+//! One step of a query: what is kept of it, and its answers, after one more snapshot, and what is
+//! kept of it over more slots.
 #![tactic(auto)]
 
 mod advancing;
@@ -11,8 +12,9 @@ mod step;
 #[cfg(test)]
 mod tests;
 mod weak;
+mod widening;
 
 pub use advancing::advance;
 pub use fitting::fits;
-pub use kept::{Kept, start};
+pub use kept::{Kept, Slots, start};
 pub use std::alloc::AllocError as Memory;

@@ -8,7 +8,7 @@ ghost use Rattle.progression.specs.Kept.{Fits};
 ghost use Rattle.progression.specs.Tables.{IsOverLeaf};
 ghost use Rattle.dl_syntax.specs.declared.queries.Cq.{Cq};
 
-use crate::{Kept, Memory, advance, fits, start};
+use crate::{Kept, Memory, Slots, advance, fits, start};
 use answer_tables::Made;
 use dl_syntax::{Atom, ConceptId, Cq, IndId, Items, Name, Term, Tuples};
 use formula_store::Store;
@@ -81,7 +81,11 @@ fn step(
 {
     let server = rows_of(alloc, server)?;
     let failed = rows_of(alloc, failed)?;
-    advance(alloc, query, 4, kept, &[server, failed], made, store)
+    let slots = Slots {
+        kept: 4,
+        answered: 3,
+    };
+    advance(alloc, query, slots, kept, &[server, failed], made, store)
 }
 
 fn first_step(
