@@ -1,21 +1,26 @@
 -- The facts of a value, and of a line in JSON form.
 use Rattle.std.proofs.Common.{◌≡◌, ℕ, ◌<◌, ◌+◌, Bool, true, false, cond, List, [], ◌∷◌}
 use Rattle.std.proofs.Common.{length, drop, drop-cons, get_or, add-one, refl, sym, ap, ◌∙◌, arith}
-use Rattle.std.specs.Prelude.{Option, Some, None}
+use Rattle.std.specs.Prelude.{Option, Some, None, Err, codes}
 use Rattle.std.specs.Option.{option_map, option_map_or}
 use Rattle.std.specs.List.{list_all}
 use Rattle.std.specs.Str.{is_utf8}
 use Rattle.serde_json.specs.Data.{Data}
-use Rattle.serde_json.specs.Find.{as_str}
+use Rattle.serde_json.specs.Find.{get, as_array, as_str}
 use Rattle.serde_json.specs.Read.{read}
 use Rattle.serde_json.specs.View.{view, items_view}
 use Rattle.serde_json.specs.declared.value.Value.{Value}
 use Rattle.text_scan.specs.Bytes.{is_blank}
 use Rattle.dl_syntax.specs.Names.{IsName, is_name}
+use Rattle.dl_syntax.specs.Ontology.{Declared}
 use Rattle.dl_syntax.proofs.NameTests.{name_decides}
 use Rattle.snapshot_reader.specs.Written.{Written, blank, malformed, writes, name_in}
-use Rattle.snapshot_reader.specs.Written.{fact_in, fact_of_items, facts_in, facts_of, json_writes}
-use Rattle.snapshot_reader.specs.Written.{◌>>=◌}
+use Rattle.snapshot_reader.specs.Written.{fact_in, fact_of_items, facts_in, json_writes, ◌>>=◌}
+use Rattle.snapshot_reader.specs.Written.{named_in, data_writes, declaring}
+use Rattle.snapshot_reader.specs.declared.SnapFault.{SnapFault}
+use Rattle.snapshot_reader.specs.declared.SnapFault.TheVariants as fault
+use Rattle.snapshot_reader.specs.Said.{line_says}
+use Rattle.snapshot_reader.specs.Answers.{Tells, HasNoValue}
 
 -- ---- a name
 
@@ -67,7 +72,7 @@ unfolding json_writes
 blank_line line blanks = rw blanks refl
 
 pub value_writes : (line : List ℕ) (d : Data) → list_all is_blank line ≡ false → is_utf8 line ≡ true
-    → read line ≡ Some d → json_writes line ≡ option_map_or writes (facts_of d) malformed
+    → read line ≡ Some d → json_writes line ≡ data_writes d
 unfolding json_writes
 value_writes line d some text is = rw (some, text, is) refl
 
@@ -77,6 +82,28 @@ unfolding json_writes
 no_value line some unread = rw some (go (is_utf8 line) (read line) unread)
   where
     go : (text : Bool) (value : Option Data) → (text ≡ true → value ≡ None)
-        → cond text (option_map_or writes (value >>= facts_of) malformed) malformed ≡ malformed
+        → cond text (option_map_or data_writes value malformed) malformed ≡ malformed
     go false value none = refl
     go true value none = rw (none refl) refl
+
+-- a fault tells why a line has no value
+pub told_no_value : (o : Declared) (line : List ℕ) (e : SnapFault) → list_all is_blank line ≡ false
+    → HasNoValue line e → Tells (Err e) (line_says o (json_writes line))
+told_no_value o line fault.Malformed some unread = ap (line_says o) (no_value line some unread)
+told_no_value o line (fault.Unknown name) some unread = absurd unread
+told_no_value o line (fault.WrongKind name) some unread = absurd unread
+told_no_value o line (fault.Undeclared name) some unread = absurd unread
+told_no_value o line fault.TooManyFacts some unread = absurd unread
+told_no_value o line fault.Memory some unread = tt
+
+-- ---- a value
+
+pub with_facts : (d member : Data) → get (codes "facts") d ≡ Some member
+    → data_writes d ≡ option_map_or writes (as_array member >>= facts_in) malformed
+unfolding data_writes
+with_facts d member is = rw is refl
+
+pub without_facts : (d : Data) → get (codes "facts") d ≡ None
+    → data_writes d ≡ option_map_or declaring (named_in d) malformed
+unfolding data_writes
+without_facts d is = rw is refl

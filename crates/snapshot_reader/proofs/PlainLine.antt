@@ -1,7 +1,9 @@
 -- The value of a line of the usual form, and its facts.
 use Rattle.std.proofs.Common.{◌≡◌, ℕ, ◌-◌, ◌<◌, ◌≤◌, true, false, List, [], ◌∷◌, ◌++◌, length, refl}
-use Rattle.std.proofs.Common.{sym, ap, ◌∙◌, arith}
+use Rattle.std.proofs.Common.{sym, ap, ◌∙◌, arith, cond}
 use Rattle.std.specs.Prelude.{◌<◌, ◌^◌, ◌==◌, nat_lt, slice_index, Some, codes, option_and_then}
+use Rattle.std.specs.Prelude.{Option, None, is_some}
+use Rattle.std.specs.Option.{option_map_or}
 use Rattle.std.specs.List.{All, list_all}
 use Rattle.std.specs.Str.{is_utf8}
 use Rattle.std.proofs.lemmas.List.Elements.{All-head, All-tail}
@@ -13,13 +15,14 @@ use Rattle.json.proofs.Grammar.{items_end, members_more, members_end}
 use Rattle.fast_float.specs.Text.{Parts, scan, digits_of, IsInteger}
 use Rattle.serde_json.specs.Data.{unsigned, Data, string, array, object, Items, no_items, item}
 use Rattle.serde_json.specs.Data.{Members, no_members, put}
-use Rattle.serde_json.specs.Find.{get_member}
+use Rattle.serde_json.specs.Find.{get_member, get, as_array}
 use Rattle.json.specs.Lex.{tokens}
 use Rattle.text_scan.specs.Bytes.{is_blank}
 use Rattle.serde_json.specs.Read.{number_of, is_integer, read, of_json, of_items, of_members}
 use Rattle.serde_json.proofs.Views.{get_member-put, get_member-put_other}
 use Rattle.snapshot_reader.specs.Written.{Written, unary, binary, writes, fact_in, facts_in}
-use Rattle.snapshot_reader.specs.Written.{facts_of, json_writes, ◌>>=◌}
+use Rattle.snapshot_reader.specs.Written.{facts_of, json_writes, ◌>>=◌, malformed, declaring}
+use Rattle.snapshot_reader.specs.Written.{named_in, data_writes}
 use Rattle.snapshot_reader.specs.Tokens.{fact_before, facts_before, IsSpelled, value_in, Passed}
 use Rattle.snapshot_reader.specs.Tokens.{IsPassed, members_before, data_of}
 
@@ -281,6 +284,22 @@ line_facts ts before ws after is is_before named is_after =
 
 -- ---- the line that has these tokens
 
+member_writes : (member : Option Data) (facts : List Written) (name : Option (List ℕ))
+    → (member >>= λ m. as_array m >>= λ list. facts_in list) ≡ Some facts
+    → cond (is_some member)
+    (option_map_or writes (member >>= λ m. as_array m >>= λ list. facts_in list) malformed)
+    (option_map_or declaring name malformed) ≡ writes facts
+member_writes None facts name is = absurd cc
+member_writes (Some m) facts name is = rw is refl
+
+-- a value that has facts writes them
+pub read_writes : (found : Option Data) (facts : List Written) → (found >>= facts_of) ≡ Some facts
+    → option_map_or data_writes found malformed ≡ writes facts
+unfolding data_writes
+read_writes None facts is = absurd cc
+read_writes (Some d) facts is =
+    member_writes (get (codes "facts") d) facts (named_in d) is
+
 pub plain_writes : (line : List ℕ) (ts : List json.Token) (facts : List Written)
     → list_all is_blank line ≡ false → is_utf8 line ≡ true → ts ≡ tokens line
     → (data_of ts >>= facts_of) ≡ Some facts → json_writes line ≡ writes facts
@@ -288,4 +307,4 @@ unfolding json_writes
 plain_writes line ts facts some text is found =
     let whole : (read line >>= facts_of) ≡ Some facts =
     ap (λ all. data_of all >>= facts_of) (sym is) ∙ found in
-    rw (some, text, whole) refl
+    rw (some, text) (read_writes (read line) facts whole)

@@ -1,13 +1,15 @@
--- The names that a line writes are spelled as names, so those that it is refused for are too.
+-- The names that a line writes are spelled as names, so those that it is refused for or declares
+-- are too.
 use Rattle.std.proofs.Common.{◌≡◌, ℕ, Bool, true, false, cond, not, List, [], ◌∷◌, ◌++◌, length}
-use Rattle.std.proofs.Common.{map, subst, arith}
-use Rattle.std.specs.Prelude.{find, codes, nat_lt, Option, Some, None}
+use Rattle.std.proofs.Common.{map, subst, arith, refl, ap, inl, inr}
+use Rattle.std.specs.Prelude.{find, codes, nat_lt, Option, Some, None, ◌||◌, is_some}
 use Rattle.std.specs.Option.{option_map, option_map_or, option_or}
 use Rattle.std.specs.List.{All, list_all, flat_map, filter_map}
 use Rattle.std.specs.Str.{is_utf8, bytes_eq}
 use Rattle.std.proofs.lemmas.List.Elements.{All-nil, All-cons, All-head, All-tail, All-append}
 use Rattle.std.proofs.lemmas.List.Elements.{All-map, All-weaker, All-drop}
 use Rattle.std.proofs.lemmas.Bool.{cond_both}
+use Rattle.std.proofs.lemmas.Slice.Eq.{bytes_eq-Decides}
 use Rattle.serde_json.specs.Data.{Data, Items, item, no_items}
 use Rattle.serde_json.specs.Find.{get, as_array, as_str}
 use Rattle.serde_json.specs.Read.{read}
@@ -17,7 +19,7 @@ use Rattle.text_scan.specs.Lexing.{Lexeme, lexed}
 use Rattle.text_scan.specs.Spelling.{IsSpelling, IsSpelled}
 use Rattle.text_scan.proofs.Spellings.{are_spelled}
 use Rattle.dl_syntax.specs.declared.names.Kind.TheVariants.{Individual}
-use Rattle.dl_syntax.specs.Names.{IsName, is_name}
+use Rattle.dl_syntax.specs.Names.{IsName, IsReserved, IsDeclarable, is_name}
 use Rattle.dl_syntax.specs.Ontology.{Declared, is_declared}
 use Rattle.forms.specs.declared.StreamForm.{StreamForm}
 use Rattle.forms.specs.declared.StreamForm.TheVariants.{Text, Json}
@@ -25,12 +27,14 @@ use Rattle.snapshot_reader.specs.Written.{Written, unary, binary, predicate, arg
 use Rattle.snapshot_reader.specs.Written.{malformed, writes, Symbol, token, at_fault, symbol}
 use Rattle.snapshot_reader.specs.Written.{last_symbol, symbols, facts_written, symbols_write}
 use Rattle.snapshot_reader.specs.Written.{name_in, fact_of_items, fact_in, facts_in}
-use Rattle.snapshot_reader.specs.Written.{facts_of, json_writes, line_writes, ◌>>=◌}
+use Rattle.snapshot_reader.specs.Written.{facts_of, json_writes, line_writes, ◌>>=◌, declares}
+use Rattle.snapshot_reader.specs.Written.{is_reserved, declaring, individual_written, named_in}
+use Rattle.snapshot_reader.specs.Written.{data_writes}
 use Rattle.snapshot_reader.specs.Said.{is_name_of, is_fitting, first_unknown, first_misused}
 use Rattle.snapshot_reader.specs.Said.{first_undeclared, most_facts, Cause, unknown, wrong_kind}
 use Rattle.snapshot_reader.specs.Said.{undeclared, too_many_facts, is_malformed, cause_of, fact_of}
-use Rattle.snapshot_reader.specs.Said.{distinct, refused, says, facts_say, line_says, said}
-use Rattle.snapshot_reader.specs.Laws.{CauseIsSpelled, RefusesNames}
+use Rattle.snapshot_reader.specs.Said.{distinct, refused, names, says, facts_say, line_says, said}
+use Rattle.snapshot_reader.specs.Laws.{CauseIsSpelled, RefusesNames, DeclaresNames, NamesAreFree}
 use Rattle.dl_syntax.proofs.NameTests.{name_decides}
 
 -- a fact whose names are names
@@ -42,6 +46,7 @@ AreNames (binary p a b) = IsName p × IsName a × IsName b
 abbrev WritesNames : Line → Type 0
 WritesNames blank = Unit {0}
 WritesNames malformed = Unit {0}
+WritesNames (declares name) = IsDeclarable name
 WritesNames (writes facts) = All AreNames facts
 
 -- what holds of each value that there is
@@ -110,6 +115,35 @@ written_named (token Name p ∷ token Open o ∷ token Name a ∷ token Comma e 
     ∷ rest) all))
 written_named _ all = tt
 
+not_same : (text known : List ℕ) → bytes_eq text known ≡ false → text ≡ known → ⊥
+not_same text known other same =
+    let is : bytes_eq text known ≡ true = (bytes_eq-Decides text known).1 same in absurd cc
+
+declarable : (name : List ℕ) → IsName name → is_reserved name ≡ false → IsDeclarable name
+declarable name spelled free = (
+  spelled,
+  λ reserved. go (bytes_eq name (codes "some")) (bytes_eq name (codes "inv")) refl refl free reserved,
+)
+  where
+    go : (first second : Bool) → bytes_eq name (codes "some") ≡ first
+        → bytes_eq name (codes "inv") ≡ second → (first || second) ≡ false → IsReserved name → ⊥
+    go false false first second free (inl same) = not_same name (codes "some") first same
+    go false false first second free (inr same) = not_same name (codes "inv") second same
+    go true second is_first is_second free reserved = absurd cc
+    go false true is_first is_second free reserved = absurd cc
+
+declaring_named : (name : List ℕ) → IsName name → WritesNames (declaring name)
+declaring_named name spelled =
+    cond_both (is_reserved name) malformed (declares name) WritesNames (λ reserved. tt)
+    (λ free. declarable name spelled free)
+
+individual_named : (xs : List Symbol) → All SymbolIsSpelled xs
+    → WritesNames (individual_written xs)
+unfolding individual_written
+individual_named (token Name name ∷ []) all =
+    declaring_named name (All-head SymbolIsSpelled (token Name name) [] all)
+individual_named _ all = tt
+
 or_malformed : (found : Option (List Written)) → Each (All AreNames) found
     → WritesNames (option_map_or writes found malformed)
 or_malformed None each = tt
@@ -119,10 +153,11 @@ text_named : (xs : List Symbol) → All SymbolIsSpelled xs → WritesNames (symb
 unfolding symbols_write
 text_named [] all = tt
 text_named (token Name word ∷ rest) all =
+    let others = All-tail SymbolIsSpelled (token Name word) rest all in
     cond_both (bytes_eq word (codes "snap")) (option_map_or writes (facts_written rest) malformed)
-    malformed WritesNames
-    (λ snap. or_malformed (facts_written rest)
-    (written_named rest (All-tail SymbolIsSpelled (token Name word) rest all))) (λ other. tt)
+    _ WritesNames (λ snap. or_malformed (facts_written rest) (written_named rest others)) (λ other.
+    cond_both (bytes_eq word (codes "individual")) (individual_written rest) malformed WritesNames
+    (λ individual. individual_named rest others) (λ another. tt))
 text_named _ all = tt
 
 -- ---- JSON form
@@ -174,13 +209,28 @@ value_named d =
     facts_in list) (get (codes "facts") d)
     (λ member. each_behind (All AreNames) (λ list. facts_in list) (as_array member) list_named)
 
+or_declares : (found : Option (List ℕ)) → Each IsName found
+    → WritesNames (option_map_or declaring found malformed)
+or_declares None each = tt
+or_declares (Some name) each = declaring_named name each
+
+data_named : (d : Data) → WritesNames (data_writes d)
+unfolding data_writes
+data_named d =
+    cond_both (is_some (get (codes "facts") d)) _ _ WritesNames (λ with_facts.
+    or_malformed (facts_of d) (value_named d)) (λ without. or_declares (named_in d)
+    (each_behind IsName name_in (get (codes "individual") d) name_named))
+
+read_named : (found : Option Data) → WritesNames (option_map_or data_writes found malformed)
+read_named None = tt
+read_named (Some d) = data_named d
+
 json_named : (line : List ℕ) → WritesNames (json_writes line)
 unfolding json_writes
 json_named line =
     cond_both (list_all is_blank line) _ _ WritesNames (λ blanks. tt)
     (λ some. cond_both (is_utf8 line) _ _ WritesNames (λ text.
-    or_malformed (read line >>= facts_of)
-    (each_behind (All AreNames) facts_of (read line) value_named)) (λ other. tt))
+    read_named (read line)) (λ other. tt))
 
 line_named : (form : StreamForm) (line : List ℕ) → WritesNames (line_writes form line)
 unfolding line_writes
@@ -258,6 +308,7 @@ unfolding facts_say
 line_spelled o blank cause named is = absurd cc
 line_spelled o malformed cause named is = let same : is_malformed ≡ cause = cc in
     subst CauseIsSpelled same tt
+line_spelled o (declares name) cause named is = absurd cc
 line_spelled o (writes facts) cause named is =
     caused (cause_of o facts) (distinct (filter_map (fact_of o) facts)) cause
     (cause_named o facts named) is
@@ -266,3 +317,29 @@ pub refuses_names : RefusesNames
 unfolding said
 refuses_names o form line cause is =
     line_spelled o (line_writes form line) cause (line_named form line) is
+
+-- ---- a line that declares an individual
+
+no_names : (found : Option Cause) (facts : List _) (name : List ℕ)
+    → option_map_or refused found (says facts) ≡ names name → ⊥
+no_names None facts name is = absurd cc
+no_names (Some c) facts name is = absurd cc
+
+line_declares : (o : Declared) (line : Line) (name : List ℕ) → line_says o line ≡ names name
+    → line ≡ declares name
+unfolding facts_say
+line_declares o blank name is = absurd cc
+line_declares o malformed name is = absurd cc
+line_declares o (declares other) name is = cc
+line_declares o (writes facts) name is =
+    absurd (no_names (cause_of o facts) (distinct (filter_map (fact_of o) facts)) name is)
+
+pub declares_names : DeclaresNames
+unfolding said
+declares_names o form line name is =
+    subst WritesNames (line_declares o (line_writes form line) name is) (line_named form line)
+
+pub names_are_free : NamesAreFree
+unfolding said
+names_are_free o other form line name is =
+    ap (line_says other) (line_declares o (line_writes form line) name is)

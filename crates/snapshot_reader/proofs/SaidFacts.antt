@@ -19,6 +19,7 @@ use Rattle.dl_syntax.specs.declared.facts.Fact.TheVariants as fact
 use Rattle.dl_syntax.specs.Snapshots.{IsSnapshot}
 use Rattle.dl_syntax.specs.Ontology.{Declared, names_of, number_of}
 use Rattle.snapshot_reader.specs.Written.{Written, unary, binary, Line, blank, malformed, writes}
+use Rattle.snapshot_reader.specs.Written.{declares}
 use Rattle.snapshot_reader.specs.Written.{line_writes}
 use Rattle.snapshot_reader.specs.Said.{◌>>=◌, individual_of, fact_of, same_fact, with_fact}
 use Rattle.snapshot_reader.specs.Said.{distinct, Cause, refused, says, cause_of, facts_say}
@@ -137,6 +138,7 @@ line_has : (o : Declared) (P : List Fact → Type 0) → ((ws : List Written)
     → (l : Line) (facts : List Fact) → line_says o l ≡ says facts → P facts
 line_has o P all blank facts is = cc
 line_has o P all malformed facts is = cc
+line_has o P all (declares name) facts is = cc
 line_has o P all (writes ws) facts is = subst P (facts_are o ws facts is) (all ws)
 
 pub said_are_declared : SaidAreDeclared
@@ -188,6 +190,7 @@ line_few : (o : Declared) (l : Line) (facts : List Fact) → line_says o l ≡ s
     → length facts ≤ most_facts
 line_few o blank facts is = cc
 line_few o malformed facts is = cc
+line_few o (declares name) facts is = cc
 line_few o (writes ws) facts is = few_said o ws facts is
 
 pub said_are_few : SaidAreFew

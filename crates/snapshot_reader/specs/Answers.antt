@@ -5,16 +5,17 @@ use Rattle.serde_json.specs.declared.value.Value.{Value}
 use Rattle.serde_json.specs.Read.{read}
 use Rattle.serde_json.specs.View.{view}
 use Rattle.snapshot_reader.specs.declared.Reading.{Reading}
-use Rattle.snapshot_reader.specs.declared.Reading.TheVariants.{Skip, Facts}
+use Rattle.snapshot_reader.specs.declared.Reading.TheVariants.{Skip, Facts, Individual}
 use Rattle.snapshot_reader.specs.declared.SnapFault.{SnapFault}
 use Rattle.snapshot_reader.specs.declared.SnapFault.TheVariants as fault
 use Rattle.dl_syntax.specs.declared.facts.Fact.{Fact}
-use Rattle.snapshot_reader.specs.Said.{Said, nothing, refused, says, Cause, is_malformed, unknown}
-use Rattle.snapshot_reader.specs.Said.{wrong_kind, undeclared, too_many_facts}
+use Rattle.snapshot_reader.specs.Said.{Said, nothing, refused, names, says, Cause, is_malformed}
+use Rattle.snapshot_reader.specs.Said.{unknown, wrong_kind, undeclared, too_many_facts}
 
 -- the answer is what is said, unless memory ran out
 abbrev pub Tells : Result Reading SnapFault → Said → Type 0
 Tells (Ok Skip) what = what ≡ nothing
+Tells (Ok (Individual name)) what = what ≡ names name
 Tells (Ok (Facts snapshot)) what = what ≡ says snapshot
 Tells (Err fault.Malformed) what = what ≡ refused is_malformed
 Tells (Err (fault.Unknown name)) what = what ≡ refused (unknown name)

@@ -5,12 +5,12 @@ use Rattle.dl_syntax.specs.declared.facts.Element.{Element}
 use Rattle.dl_syntax.specs.declared.facts.Element.TheVariants.{Ind, Null}
 use Rattle.dl_syntax.specs.declared.facts.Fact.{Fact}
 use Rattle.dl_syntax.specs.declared.facts.Fact.TheVariants as fact
-use Rattle.dl_syntax.specs.Names.{IsName}
+use Rattle.dl_syntax.specs.Names.{IsName, IsDeclarable}
 use Rattle.dl_syntax.specs.Snapshots.{IsSnapshot}
 use Rattle.dl_syntax.specs.Ontology.{Declared}
 use Rattle.forms.specs.declared.StreamForm.{StreamForm}
 use Rattle.snapshot_reader.specs.Said.{Cause, is_malformed, unknown, wrong_kind, undeclared}
-use Rattle.snapshot_reader.specs.Said.{too_many_facts, most_facts, refused, says, said}
+use Rattle.snapshot_reader.specs.Said.{too_many_facts, most_facts, refused, names, says, said}
 
 -- a cause with a name has one that is spelled as a name
 abbrev pub CauseIsSpelled : Cause → Type 0
@@ -24,6 +24,16 @@ CauseIsSpelled too_many_facts = Unit {0}
 abbrev pub RefusesNames : Type 0
 RefusesNames = (o : Declared) (form : StreamForm) (line : List ℕ) (cause : Cause)
     → said o form line ≡ refused cause → CauseIsSpelled cause
+
+-- the name of an individual that a line declares may be declared, in each form
+abbrev pub DeclaresNames : Type 0
+DeclaresNames = (o : Declared) (form : StreamForm) (line : List ℕ) (name : List ℕ)
+    → said o form line ≡ names name → IsDeclarable name
+
+-- which name a line declares is the same under any ontology
+abbrev pub NamesAreFree : Type 0
+NamesAreFree = (o other : Declared) (form : StreamForm) (line : List ℕ) (name : List ℕ)
+    → said o form line ≡ names name → said other form line ≡ names name
 
 -- an individual that the ontology declares
 abbrev pub IsDeclaredIndividual : Declared → Element → Type 0

@@ -14,7 +14,7 @@ use Rattle.dl_syntax.specs.declared.facts.Fact.TheVariants as fact
 use Rattle.dl_syntax.specs.Ontology.{Declared, number_of, is_declared}
 use Rattle.forms.specs.declared.StreamForm.{StreamForm}
 use Rattle.snapshot_reader.specs.Written.{Written, unary, binary, predicate, arguments, Line, blank}
-use Rattle.snapshot_reader.specs.Written.{malformed, writes, line_writes}
+use Rattle.snapshot_reader.specs.Written.{malformed, declares, writes, line_writes}
 pub use Rattle.snapshot_reader.specs.Written.{◌>>=◌}
 
 abbrev pub is_name_of : Kind → Declared → List ℕ → Bool
@@ -97,10 +97,11 @@ with_fact facts f = if list_any (same_fact f) facts then facts else facts ++ f �
 unfoldable pub distinct : List Fact → List Fact
 distinct facts = fold with_fact [] facts
 
--- nothing, a cause to refuse the line, or a snapshot
+-- nothing, a cause to refuse the line, the name of a further individual, or a snapshot
 pub data Said : Type 0 where
   nothing : Said
   refused : Cause → Said
+  names : List ℕ → Said
   says : List Fact → Said
 
 unfoldable pub facts_say : Declared → List Written → Said
@@ -110,6 +111,7 @@ facts_say o facts = option_map_or refused (cause_of o facts)
 abbrev pub line_says : Declared → Line → Said
 line_says o blank = nothing
 line_says o malformed = refused is_malformed
+line_says o (declares name) = names name
 line_says o (writes facts) = facts_say o facts
 
 -- what a line of this form says

@@ -1,5 +1,5 @@
--- The facts that a line writes.
-use Rattle.std.specs.Prelude.{ℕ, List, [], ◌∷◌, ◌++◌, Option}
+-- The facts that a line writes, or the individual that it declares.
+use Rattle.std.specs.Prelude.{ℕ, Bool, List, [], ◌∷◌, ◌++◌, ◌||◌, Option, is_some}
 use Rattle.std.specs.Prelude.{Some, None, codes, map, if◌then◌else◌}
 use Rattle.std.specs.Option.{option_map, option_map_or}
 use Rattle.std.specs.List.{list_all}
@@ -28,11 +28,20 @@ abbrev pub arguments : Written → List (List ℕ)
 arguments (unary p a) = a ∷ []
 arguments (binary p a b) = a ∷ b ∷ []
 
--- a line has nothing to read, is malformed, or writes facts
+-- a line has nothing to read, is malformed, declares an individual of this name, or writes facts
 pub data Line : Type 0 where
   blank : Line
   malformed : Line
+  declares : List ℕ → Line
   writes : List Written → Line
+
+-- the words that stand for no name of an ontology
+abbrev pub is_reserved : List ℕ → Bool
+is_reserved text = bytes_eq text (codes "some") || bytes_eq text (codes "inv")
+
+-- the line that declares the name, if it may be declared
+abbrev pub declaring : List ℕ → Line
+declaring name = if is_reserved name then malformed else declares name
 
 infixl 10 ◌>>=◌
 abbrev pub ◌>>=◌ : {A B : Type 0} → Option A → (A → Option B) → Option B
@@ -65,11 +74,17 @@ facts_written (token Name p ∷ token Open _ ∷ token Name a ∷ token Comma _ 
     ∷ token Close _ ∷ rest) = option_map (λ facts. binary p a b ∷ facts) (facts_written rest)
 facts_written _ = None
 
--- the word `snap` and then facts
+-- one name, and nothing more
+unfoldable pub individual_written : List Symbol → Line
+individual_written (token Name name ∷ []) = declaring name
+individual_written _ = malformed
+
+-- the word `snap` and then facts, or the word `individual` and then a name
 unfoldable pub symbols_write : List Symbol → Line
 symbols_write [] = blank
 symbols_write (token Name word ∷ rest) =
     if bytes_eq word (codes "snap") then option_map_or writes (facts_written rest) malformed
+    else if bytes_eq word (codes "individual") then individual_written rest
     else malformed
 symbols_write _ = malformed
 
@@ -112,11 +127,23 @@ facts_of d = do
   list ← as_array member
   facts_in list
 
--- a line of blanks, or a text that has a value with facts
+-- the name that the member `individual` of an object is
+abbrev pub named_in : Data → Option (List ℕ)
+named_in d = do
+  member ← get (codes "individual") d
+  name_in member
+
+-- an object with a member `facts` writes these, and another declares its individual
+unfoldable pub data_writes : Data → Line
+data_writes d =
+    if is_some (get (codes "facts") d) then option_map_or writes (facts_of d) malformed
+    else option_map_or declaring (named_in d) malformed
+
+-- a line of blanks, or a text that has a value with facts or with an individual
 unfoldable pub json_writes : List ℕ → Line
 json_writes line =
     if list_all is_blank line then blank
-    else if is_utf8 line then option_map_or writes (read line >>= facts_of) malformed
+    else if is_utf8 line then option_map_or data_writes (read line) malformed
     else malformed
 
 -- ---- a line

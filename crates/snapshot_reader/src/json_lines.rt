@@ -3,16 +3,18 @@
 ghost use Rattle.std.specs.Prelude.{◌≡◌, false, MatchResult};
 ghost use Rattle.std.specs.Option.{option_map, option_map_or};
 ghost use Rattle.std.specs.List.{list_all};
+ghost use Rattle.dl_syntax.specs.Ontology.{Declared};
 ghost use Rattle.serde_json.specs.View.{view, items_view};
 ghost use Rattle.text_scan.specs.Bytes.{is_blank};
 ghost use Rattle.snapshot_reader.specs.Written.{name_in, fact_in, facts_in, writes, malformed};
-ghost use Rattle.snapshot_reader.specs.Written.{json_writes};
+ghost use Rattle.snapshot_reader.specs.Written.{declaring, named_in, data_writes, json_writes};
 ghost use Rattle.snapshot_reader.specs.Said.{line_says};
 ghost use Rattle.snapshot_reader.specs.Answers.{Tells, HasValue, HasNoValue};
 ghost use Rattle.snapshot_reader.specs.Cursor.{written_seen, name_seen};
 
 use crate::facts::Written;
 use crate::gathering::Gathered;
+use crate::individuals::read_name;
 use crate::plain_lines::gather_plain;
 use crate::{Reading, SnapFault};
 use dl_syntax::{Ontology, is_name};
@@ -79,8 +81,31 @@ fn value_of(alloc: Global, line: &[u8]) -> Result<Value, SnapFault>
     }
 }
 
+/// What an object without a member `facts` says.
+fn read_named(alloc: Global, value: &Value) -> Result<Reading, SnapFault>
+    ensures { (o : Declared) → Tells result
+        (line_says o (option_map_or declaring (named_in (view value.now)) malformed)) }
+{
+    match value.get("individual").and_then(name_in) {
+        Some(name) => read_name(alloc, name),
+        None => Err(SnapFault::Malformed),
+    }
+}
+
+/// What the value of a line says.
+fn read_value(alloc: Global, value: &Value, ontology: &Ontology) -> Result<Reading, SnapFault>
+    ensures { Tells result (line_says ontology.now (data_writes (view value.now))) }
+{
+    let Some(member) = value.get("facts") else {
+        return read_named(alloc, value);
+    };
+    match member.as_array() {
+        Some(list) => read_list(alloc, list.as_slice(), ontology),
+        None => Err(SnapFault::Malformed),
+    }
+}
+
 /// What a line says that has something to read, by the tree of its value.
-#[tactic(auto, unfolding(crate::specs::Written::json_writes))]
 fn read_tree(alloc: Global, line: &[u8], ontology: &Ontology) -> Result<Reading, SnapFault>
     requires { list_all is_blank line.now ≡ false }
     ensures { Tells result (line_says ontology.now (json_writes line.now)) }
@@ -89,10 +114,7 @@ fn read_tree(alloc: Global, line: &[u8], ontology: &Ontology) -> Result<Reading,
         Ok(value) => value,
         Err(fault) => return Err(fault),
     };
-    match value.get("facts").and_then(Value::as_array) {
-        Some(list) => read_list(alloc, list.as_slice(), ontology),
-        None => Err(SnapFault::Malformed),
-    }
+    read_value(alloc, &value, ontology)
 }
 
 /// What a line in JSON form says. A line of the usual form is read without its tree.

@@ -8,6 +8,7 @@ mod distinct;
 mod facts;
 mod further;
 mod gathering;
+mod individuals;
 mod json_lines;
 pub mod laws;
 mod lines;
@@ -24,6 +25,8 @@ pub use model_lines::{is_model_line, read_model};
 pub enum Reading {
     /// The line has nothing to read.
     Skip,
+    /// The name of a further individual. It is spelled as a name and neither `some` nor `inv`.
+    Individual(Name),
     /// A snapshot, in which a repeated fact keeps its first place.
     Facts(Snapshot),
 }

@@ -11,6 +11,7 @@ ghost use Rattle.snapshot_reader.specs.Cursor.{symbols_from, facts_from, IsToken
 
 use crate::facts::{NextFact, name_of, next_fact};
 use crate::gathering::Gathered;
+use crate::individuals::read_individual;
 use crate::json_lines::read_json;
 use crate::{Reading, SnapFault};
 use dl_syntax::Ontology;
@@ -63,10 +64,13 @@ fn read_text(alloc: Global, line: &[u8], ontology: &Ontology) -> Result<Reading,
     let Some((word, end)) = name_of(line, 0) else {
         return read_no_name(line);
     };
-    if word != b"snap".as_slice() {
-        return Err(SnapFault::Malformed);
+    if word == b"snap".as_slice() {
+        return read_facts(alloc, line, end, ontology);
     }
-    read_facts(alloc, line, end, ontology)
+    if word == b"individual".as_slice() {
+        return read_individual(alloc, line, end);
+    }
+    Err(SnapFault::Malformed)
 }
 
 /// What a line says by the names of the ontology.

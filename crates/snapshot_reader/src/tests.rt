@@ -89,6 +89,91 @@ fn reads_facts_once(rt: HostRuntime) -> Result<(), Fail> {
     Ok(())
 }
 
+/// Whether the line declares an individual of this name.
+fn declares(
+    ontology: &Ontology,
+    alloc: Global,
+    form: StreamForm,
+    line: &[u8],
+    name: &[u8],
+) -> bool {
+    match read_snapshot(alloc, line, form, ontology) {
+        Ok(Reading::Individual(declared)) => declared.bytes() == name,
+        _ => false,
+    }
+}
+
+#[test]
+fn declares_individuals(rt: HostRuntime) -> Result<(), Fail> {
+    let ontology = servers(rt.alloc())?;
+    let lines: [(&[u8], &[u8]); 4] = [
+        (b"individual s3", b"s3"),
+        (b" individual\ts1 # again\r", b"s1"),
+        (b"individual individual", b"individual"),
+        (b"individual Failed", b"Failed"),
+    ];
+    for (line, name) in lines {
+        assert!(rt; declares(&ontology, rt.alloc(), StreamForm::Text, line, name));
+    }
+    let objects: [(&[u8], &[u8]); 3] = [
+        (br#"{"individual":"s3"}"#, b"s3"),
+        (br#"{"time":{"facts":1},"individual":"s3"}"#, b"s3"),
+        (br#"{"individual":1,"individual":"s\u0033"}"#, b"s3"),
+    ];
+    for (line, name) in objects {
+        assert!(rt; declares(&ontology, rt.alloc(), StreamForm::Json, line, name));
+    }
+    Ok(())
+}
+
+#[test]
+fn declares_no_other_names(rt: HostRuntime) -> Result<(), Fail> {
+    let ontology = servers(rt.alloc())?;
+    let lines: [&[u8]; 6] = [
+        b"individual",
+        b"individual some",
+        b"individual inv",
+        b"individual s3 s4",
+        b"individual (s3)",
+        b"individual s3 !",
+    ];
+    for line in lines {
+        assert!(rt;
+            blames(
+                &ontology,
+                rt.alloc(),
+                StreamForm::Text,
+                line,
+                "malformed",
+                b""
+            )
+        );
+    }
+    let objects: [&[u8]; 5] = [
+        br#"{"individual":"some"}"#,
+        br#"{"individual":"3s"}"#,
+        br#"{"individual":["s3"]}"#,
+        br#"{"facts":null,"individual":"s3"}"#,
+        br#"["individual","s3"]"#,
+    ];
+    for line in objects {
+        assert!(rt;
+            blames(
+                &ontology,
+                rt.alloc(),
+                StreamForm::Json,
+                line,
+                "malformed",
+                b""
+            )
+        );
+    }
+    let both = br#"{"individual":"s3","facts":[["Failed","s1"]]}"#;
+    let failed = [Fact::Concept(ConceptId(0), Element::Ind(IndId(0)))];
+    assert!(rt; gives(&ontology, rt.alloc(), both, failed.as_slice()));
+    Ok(())
+}
+
 #[test]
 fn skips_what_says_nothing(rt: HostRuntime) -> Result<(), Fail> {
     let ontology = servers(rt.alloc())?;
