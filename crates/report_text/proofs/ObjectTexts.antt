@@ -14,6 +14,7 @@ use Rattle.std.proofs.lemmas.List.{drop_more}
 use Rattle.std.proofs.lemmas.Option.{get_or_from_slice_get, slice_get-get_or}
 use Rattle.report_text.specs.Names.{Text, name_of_query, query_name}
 use Rattle.report_text.specs.Objects.{accepted_data, answers_data, count_data, end_data, name_data}
+use Rattle.report_text.specs.Objects.{declared_data}
 use Rattle.report_text.specs.Objects.{object_line, queries_data, query_data, query_with, size_at}
 use Rattle.report_text.specs.Objects.{size_text, tuple_data, tuples_data, value_text}
 
@@ -49,6 +50,21 @@ pub clash_object_is : (line clash : ℕ) (word : Data)
     (member (codes "line") (count_data line) (member (codes "refused") word no_members))))
 unfolding serde_json_on_literals object_line value_text
 clash_object_is line clash word = simp append_assoc
+
+pub large_object_is : (line : ℕ) (word units : Data)
+    → ((codes "{\"line\":" ++ decimal line) ++ (codes ",\"refused\":" ++ value_text word))
+    ++ (codes ",\"units\":" ++ (value_text units ++ codes "}\n"))
+    ≡ object_line (object (member (codes "line") (count_data line)
+    (member (codes "refused") word (member (codes "units") units no_members))))
+unfolding serde_json_on_literals object_line value_text
+large_object_is line word units = simp append_assoc
+
+pub declared_object_is : (line : ℕ) (name : Text)
+    → codes "{\"declared\":" ++ (value_text (string name)
+    ++ ((codes ",\"line\":" ++ decimal line) ++ codes "}\n"))
+    ≡ object_line (declared_data line name)
+unfolding serde_json_on_literals object_line declared_data value_text
+declared_object_is line name = simp append_assoc
 
 query_is : (query : Text) (size : Option ℕ) (tuples : Data)
     → ((codes "{" ++ size_text size) ++ (codes "\"query\":" ++ value_text (string query)))

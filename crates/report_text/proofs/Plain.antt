@@ -4,7 +4,7 @@ use Rattle.std.proofs.Common.{refl, arith, append_assoc, length}
 use Rattle.std.specs.Prelude.{decimal, codes, IsTrue, flat_map}
 use Rattle.std.specs.List.{All}
 use Rattle.std.proofs.lemmas.Bool.Decides.{nat_tests}
-use Rattle.std.proofs.lemmas.Fmt.{decimal_by_steps}
+use Rattle.std.proofs.lemmas.Fmt.{decimal_by_steps_wide}
 use Rattle.std.proofs.lemmas.List.Folds.{list_any-append, list_any_none}
 use Rattle.std.proofs.lemmas.List.Elements.{All-cons, All-weaker, All-head, All-tail, All-get_or}
 use Rattle.csv.specs.Writing.{default_writer, field_text, fields_text, is_blank, needs_byte}
@@ -21,9 +21,9 @@ pub record IsPlain (field : Text) : Type 0 where
 digit_is_plain : (d : ℕ) → d < 10 → needs_byte default_writer (48 + d) ≡ false
 digit_is_plain d small = grind (arith, nat_tests)
 
-pub decimal_is_plain : (n : ℕ) → n < 2 ^ 64 → IsPlain (decimal n)
-decimal_is_plain n fits = record {
-  plain = decimal_by_steps (λ n ds. needs_quotes default_writer ds ≡ false)
+pub wide_is_plain : (n : ℕ) → n < 10 ^ 64 → IsPlain (decimal n)
+wide_is_plain n fits = record {
+  plain = decimal_by_steps_wide (λ n ds. needs_quotes default_writer ds ≡ false)
       (λ n small. rw (digit_is_plain n small))
       (λ n ds ten before. rw (
         list_any-append (needs_byte default_writer) ds ((48 + n % 10) ∷ []),
@@ -31,6 +31,9 @@ decimal_is_plain n fits = record {
         digit_is_plain (n % 10) (omega arith),
       )) n fits;
 }
+
+pub decimal_is_plain : (n : ℕ) → n < 2 ^ 64 → IsPlain (decimal n)
+decimal_is_plain n fits = wide_is_plain n (omega (arith, fits))
 
 name_byte_is_plain : (b : ℕ) → IsTrue (is_name_byte b) → needs_byte default_writer b ≡ false
 name_byte_is_plain b in_names = grind (arith, nat_tests)

@@ -8,12 +8,14 @@ use Rattle.dl_syntax.specs.Names.{IsName}
 use Rattle.report_text.specs.declared.item.Cause.{Cause}
 use Rattle.report_text.specs.declared.item.Cause.TheVariants.{TooLong, Malformed, Unknown}
 use Rattle.report_text.specs.declared.item.Cause.TheVariants.{WrongKind, Undeclared, TooManyFacts}
-use Rattle.report_text.specs.declared.item.Cause.TheVariants.{Contradiction}
+use Rattle.report_text.specs.declared.item.Cause.TheVariants.{Contradiction, Closed, NameTwice}
+use Rattle.report_text.specs.declared.item.Cause.TheVariants.{TooMany, TooLarge}
 use Rattle.report_text.specs.Names.{Text, IsSpelledCause}
-use Rattle.report_text.specs.Rows.{HasSmallClash, cause_word, cause_number, cause_name}
+use Rattle.report_text.specs.Rows.{HasSmallNumber, cause_word, cause_number, cause_name}
 use Rattle.report_text.specs.Rows.{individuals_text, accepted_row, answer_row, answer_front}
-use Rattle.report_text.specs.Rows.{answer_detail, kept_row, refused_row, end_row}
-use Rattle.report_text.proofs.Plain.{IsPlain, decimal_is_plain, name_is_plain, nothing_is_plain}
+use Rattle.report_text.specs.Rows.{answer_detail, kept_row, declared_row, refused_row, end_row}
+use Rattle.report_text.proofs.Plain.{IsPlain, decimal_is_plain, wide_is_plain, name_is_plain}
+use Rattle.report_text.proofs.Plain.{nothing_is_plain}
 use Rattle.report_text.proofs.Plain.{individuals_are_plain, row_is}
 use Rattle.report_text.proofs.Pieces.{grown_4}
 
@@ -51,6 +53,13 @@ kept_row_is line size query line_fits size_fits spelled =
     }) (decimal_is_plain size size_fits) (name_is_plain query spelled) nothing_is_plain)
     (simp append_assoc)
 
+pub declared_row_is : (line : ℕ) (name : Text) → IsU64 line → IsName name
+    → ((decimal line ++ codes ",declared,,") ++ name) ++ codes ",\n" ≡ declared_row line name
+declared_row_is line name line_fits spelled =
+    rw (row_is (decimal line) (codes "declared") [] name [] (decimal_is_plain line line_fits)
+    (record { plain = refl }) nothing_is_plain (name_is_plain name spelled) nothing_is_plain)
+    (simp append_assoc)
+
 pub answer_row_is : (names : List Text) (line number : ℕ) (query : Text) (individuals : List IndId)
     → IsU64 line → IsU64 number → IsName query → All IsName names
     → All (λ i. i.0 < length names) individuals
@@ -74,6 +83,10 @@ word_is_plain (WrongKind name) = record { plain = refl }
 word_is_plain (Undeclared name) = record { plain = refl }
 word_is_plain TooManyFacts = record { plain = refl }
 word_is_plain (Contradiction clash) = record { plain = refl }
+word_is_plain Closed = record { plain = refl }
+word_is_plain (NameTwice name) = record { plain = refl }
+word_is_plain TooMany = record { plain = refl }
+word_is_plain (TooLarge total) = record { plain = refl }
 
 cause_name_is_plain : (cause : Cause) → IsSpelledCause cause → IsPlain (cause_name cause)
 cause_name_is_plain TooLong spelled = nothing_is_plain
@@ -83,8 +96,12 @@ cause_name_is_plain (WrongKind name) spelled = name_is_plain name spelled
 cause_name_is_plain (Undeclared name) spelled = name_is_plain name spelled
 cause_name_is_plain TooManyFacts spelled = nothing_is_plain
 cause_name_is_plain (Contradiction clash) spelled = nothing_is_plain
+cause_name_is_plain Closed spelled = nothing_is_plain
+cause_name_is_plain (NameTwice name) spelled = name_is_plain name spelled
+cause_name_is_plain TooMany spelled = nothing_is_plain
+cause_name_is_plain (TooLarge total) spelled = nothing_is_plain
 
-cause_number_is_plain : (cause : Cause) → HasSmallClash cause → IsPlain (cause_number cause)
+cause_number_is_plain : (cause : Cause) → HasSmallNumber cause → IsPlain (cause_number cause)
 cause_number_is_plain TooLong small = nothing_is_plain
 cause_number_is_plain Malformed small = nothing_is_plain
 cause_number_is_plain (Unknown name) small = nothing_is_plain
@@ -92,8 +109,12 @@ cause_number_is_plain (WrongKind name) small = nothing_is_plain
 cause_number_is_plain (Undeclared name) small = nothing_is_plain
 cause_number_is_plain TooManyFacts small = nothing_is_plain
 cause_number_is_plain (Contradiction clash) small = decimal_is_plain clash (omega (arith, small))
+cause_number_is_plain Closed small = nothing_is_plain
+cause_number_is_plain (NameTwice name) small = nothing_is_plain
+cause_number_is_plain TooMany small = nothing_is_plain
+cause_number_is_plain (TooLarge total) small = wide_is_plain total (omega (arith, small))
 
-refused_row_is : (line : ℕ) (cause : Cause) → IsU64 line → HasSmallClash cause
+refused_row_is : (line : ℕ) (cause : Cause) → IsU64 line → HasSmallNumber cause
     → IsSpelledCause cause
     → decimal line ++ (codes ",refused,"
     ++ (cause_number cause ++ (codes "," ++ cause_word cause ++ codes "," ++ cause_name cause
@@ -105,7 +126,7 @@ refused_row_is line cause line_fits small spelled =
     (simp append_assoc)
 
 -- the row of a refusal, piece by piece
-pub refused_row_grown : (line : ℕ) (cause : Cause) → IsU64 line → HasSmallClash cause
+pub refused_row_grown : (line : ℕ) (cause : Cause) → IsU64 line → HasSmallNumber cause
     → IsSpelledCause cause
     → (old first second third now word name : Text) → first ≡ old ++ decimal line
     → second ≡ first ++ codes ",refused," → third ≡ second ++ cause_number cause

@@ -3,6 +3,7 @@ use Rattle.std.specs.Prelude.{◌≡◌, ℕ, ◌+◌, List, [], ◌∷◌, ◌+
 use Rattle.std.specs.List.{All}
 use Rattle.std.specs.declared.option.Option.{Option}
 use Rattle.dl_syntax.specs.declared.names.IndId.{IndId}
+use Rattle.dl_syntax.specs.Names.{IsName}
 use Rattle.dl_syntax.specs.Ontology.{Declared}
 use Rattle.dl_syntax.specs.Rows.{Relation}
 use Rattle.tcq_syntax.specs.Tcq.{Tcq}
@@ -10,6 +11,7 @@ use Rattle.report_text.specs.declared.item.Item.{Item}
 use Rattle.report_text.specs.declared.item.Item.TheVariants as item
 use Rattle.report_text.specs.declared.event.Event.{Event}
 use Rattle.report_text.specs.declared.event.Event.TheVariants.{Accepted, Refused, End}
+use Rattle.report_text.specs.declared.event.Event.TheVariants.{Declared as Arrived}
 use Rattle.forms.specs.declared.ReportForm.{ReportForm}
 use Rattle.forms.specs.declared.ReportForm.TheVariants as form
 use Rattle.report_text.specs.Names.{Text, AreNamed, AreSpelled, IsSpelledCause}
@@ -38,6 +40,7 @@ query_items line number kept place (relation ∷ later) =
 abbrev pub items_of : Event → List Item
 items_of (Accepted line number answers kept) =
     item.Accepted line number ∷ query_items line number kept 0 answers
+items_of (Arrived line name) = item.Declared line name ∷ []
 items_of (Refused line cause) = item.Refused line cause ∷ []
 items_of (End accepted refused) = item.End accepted refused ∷ []
 
@@ -68,16 +71,18 @@ pub record AreAnswered (ontology : Declared) (queries : List Tcq) (kept : Option
 abbrev pub HasAnswers : Declared → List Tcq → Event → Type 0
 HasAnswers ontology queries (Accepted line number answers kept) =
     AreAnswered ontology queries kept answers
+HasAnswers ontology queries (Arrived line name) = Unit {0}
 HasAnswers ontology queries (Refused line cause) = Unit {0}
 HasAnswers ontology queries (End accepted refused) = Unit {0}
 
 abbrev pub IsSpelledEvent : Event → Type 0
 IsSpelledEvent (Accepted line number answers kept) = Unit {0}
+IsSpelledEvent (Arrived line name) = IsName name
 IsSpelledEvent (Refused line cause) = IsSpelledCause cause
 IsSpelledEvent (End accepted refused) = Unit {0}
 
--- each query has its answers, what they name exists, and the names of the queries and of a cause
--- are spelled as names
+-- each query has its answers, what they name exists, and the names of the queries, of a cause and
+-- of what is declared are spelled as names
 pub record EventHasNames (ontology : Declared) (queries : List Tcq) (event : Event) : Type 0 where
   pub answers : HasAnswers ontology queries event
   pub queries_spelled : AreSpelled queries

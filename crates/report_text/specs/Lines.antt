@@ -8,15 +8,17 @@ use Rattle.tcq_syntax.specs.Tcq.{Tcq}
 use Rattle.report_text.specs.declared.item.Cause.{Cause}
 use Rattle.report_text.specs.declared.item.Cause.TheVariants.{TooLong, Malformed, Unknown}
 use Rattle.report_text.specs.declared.item.Cause.TheVariants.{WrongKind, Undeclared, TooManyFacts}
-use Rattle.report_text.specs.declared.item.Cause.TheVariants.{Contradiction}
+use Rattle.report_text.specs.declared.item.Cause.TheVariants.{Contradiction, Closed, NameTwice}
+use Rattle.report_text.specs.declared.item.Cause.TheVariants.{TooMany, TooLarge}
 use Rattle.report_text.specs.declared.item.Item.{Item}
-use Rattle.report_text.specs.declared.item.Item.TheVariants.{Accepted, Answer, Kept, Refused, End}
+use Rattle.report_text.specs.declared.item.Item.TheVariants.{Accepted, Answer, Kept}
+use Rattle.report_text.specs.declared.item.Item.TheVariants.{Refused, End, Declared as Arrived}
 use Rattle.forms.specs.declared.LineForm.{LineForm}
 use Rattle.forms.specs.declared.LineForm.TheVariants as form
 pub use Rattle.report_text.specs.Names.{Text, name_of_query, query_name, IsNamed, AreNamed}
 pub use Rattle.report_text.specs.Names.{HasNames, AreSpelled, IsSpelledItem}
 use Rattle.report_text.specs.Rows.{heading_row, item_row, accepted_row, answer_rows, kept_row}
-use Rattle.report_text.specs.Rows.{refused_row, end_row}
+use Rattle.report_text.specs.Rows.{declared_row, refused_row, end_row}
 
 -- what stands before the first line
 abbrev pub heading_text : LineForm → Text
@@ -31,6 +33,10 @@ cause_text (WrongKind name) = codes "wrong-kind " ++ name
 cause_text (Undeclared name) = codes "undeclared " ++ name
 cause_text TooManyFacts = codes "too-many-facts"
 cause_text (Contradiction clash) = codes "contradiction " ++ decimal clash
+cause_text Closed = codes "closed"
+cause_text (NameTwice name) = codes "name-twice " ++ name
+cause_text TooMany = codes "too-many"
+cause_text (TooLarge total) = codes "too-large " ++ decimal total
 
 -- the individuals' names, each after a space
 abbrev pub row_text : List Text → List IndId → Text
@@ -48,6 +54,9 @@ abbrev pub two_text : Text → ℕ → Text → ℕ → Text
 two_text before first between second =
     before ++ decimal first ++ between ++ decimal second ++ codes "\n"
 
+abbrev pub declared_text : ℕ → Text → Text
+declared_text line name = codes "line " ++ decimal line ++ codes " declared " ++ name ++ codes "\n"
+
 abbrev pub refused_text : ℕ → Cause → Text
 refused_text line cause = codes "line " ++ decimal line ++ codes " refused " ++ cause_text cause
     ++ codes "\n"
@@ -63,6 +72,7 @@ line_text ontology queries (Accepted line number) =
 line_text ontology queries (Answer line number query row) =
     answer_text ontology.individuals (query_name queries query) row
 line_text ontology queries (Kept line query size) = kept_text (query_name queries query) size
+line_text ontology queries (Arrived line name) = declared_text line name
 line_text ontology queries (Refused line cause) = refused_text line cause
 line_text ontology queries (End accepted refused) =
     two_text (codes "end accepted ") accepted (codes " refused ") refused
@@ -93,6 +103,10 @@ size_in form.Text line query None = []
 size_in form.Text line query (Some size) = kept_text query size
 size_in form.Csv line query None = []
 size_in form.Csv line query (Some size) = kept_row line size query
+
+abbrev pub declared_in : LineForm → ℕ → Text → Text
+declared_in form.Text line name = declared_text line name
+declared_in form.Csv line name = declared_row line name
 
 abbrev pub refused_in : LineForm → ℕ → Cause → Text
 refused_in form.Text line cause = refused_text line cause

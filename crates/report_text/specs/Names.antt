@@ -10,9 +10,11 @@ use Rattle.tcq_syntax.specs.Tcq.{Tcq}
 use Rattle.report_text.specs.declared.item.Cause.{Cause}
 use Rattle.report_text.specs.declared.item.Cause.TheVariants.{TooLong, Malformed, Unknown}
 use Rattle.report_text.specs.declared.item.Cause.TheVariants.{WrongKind, Undeclared, TooManyFacts}
-use Rattle.report_text.specs.declared.item.Cause.TheVariants.{Contradiction}
+use Rattle.report_text.specs.declared.item.Cause.TheVariants.{Contradiction, Closed, NameTwice}
+use Rattle.report_text.specs.declared.item.Cause.TheVariants.{TooMany, TooLarge}
 use Rattle.report_text.specs.declared.item.Item.{Item}
-use Rattle.report_text.specs.declared.item.Item.TheVariants.{Accepted, Answer, Kept, Refused, End}
+use Rattle.report_text.specs.declared.item.Item.TheVariants.{Accepted, Answer, Kept}
+use Rattle.report_text.specs.declared.item.Item.TheVariants.{Refused, End, Declared as Arrived}
 
 abbrev pub Text : Type 0
 Text = List ℕ
@@ -48,6 +50,7 @@ HasNames ontology queries (Accepted line number) = Unit {0}
 HasNames ontology queries (Answer line number query row) =
     (query < length queries) × IsNamed ontology row
 HasNames ontology queries (Kept line query size) = query < length queries
+HasNames ontology queries (Arrived line name) = Unit {0}
 HasNames ontology queries (Refused line cause) = Unit {0}
 HasNames ontology queries (End accepted refused) = Unit {0}
 
@@ -68,10 +71,15 @@ IsSpelledCause (WrongKind name) = IsName name
 IsSpelledCause (Undeclared name) = IsName name
 IsSpelledCause TooManyFacts = Unit {0}
 IsSpelledCause (Contradiction clash) = Unit {0}
+IsSpelledCause Closed = Unit {0}
+IsSpelledCause (NameTwice name) = IsName name
+IsSpelledCause TooMany = Unit {0}
+IsSpelledCause (TooLarge total) = Unit {0}
 
 abbrev pub IsSpelledItem : Item → Type 0
 IsSpelledItem (Accepted line number) = Unit {0}
 IsSpelledItem (Answer line number query row) = Unit {0}
 IsSpelledItem (Kept line query size) = Unit {0}
+IsSpelledItem (Arrived line name) = IsName name
 IsSpelledItem (Refused line cause) = IsSpelledCause cause
 IsSpelledItem (End accepted refused) = Unit {0}

@@ -14,9 +14,11 @@ use Rattle.tcq_syntax.specs.Tcq.{Tcq}
 use Rattle.report_text.specs.declared.item.Cause.{Cause}
 use Rattle.report_text.specs.declared.item.Cause.TheVariants.{TooLong, Malformed, Unknown}
 use Rattle.report_text.specs.declared.item.Cause.TheVariants.{WrongKind, Undeclared, TooManyFacts}
-use Rattle.report_text.specs.declared.item.Cause.TheVariants.{Contradiction}
+use Rattle.report_text.specs.declared.item.Cause.TheVariants.{Contradiction, Closed, NameTwice}
+use Rattle.report_text.specs.declared.item.Cause.TheVariants.{TooMany, TooLarge}
 use Rattle.report_text.specs.declared.event.Event.{Event}
 use Rattle.report_text.specs.declared.event.Event.TheVariants.{Accepted, Refused, End}
+use Rattle.report_text.specs.declared.event.Event.TheVariants.{Declared as Arrived}
 use Rattle.report_text.specs.Names.{Text, name_text, query_name}
 use Rattle.report_text.specs.Rows.{cause_word}
 
@@ -86,6 +88,13 @@ clash_data line clash word =
     object (member (codes "clash") (count_data clash)
     (member (codes "line") (count_data line) (member (codes "refused") (string word) no_members)))
 
+-- a refusal for so many units, whose digits are a text
+abbrev pub large_data : ℕ → ℕ → Text → Data
+large_data line total word =
+    object (member (codes "line") (count_data line)
+    (member (codes "refused") (string word)
+    (member (codes "units") (string (decimal total)) no_members)))
+
 unfoldable pub refused_data : ℕ → Cause → Data
 refused_data line TooLong = plain_data line (cause_word TooLong)
 refused_data line Malformed = plain_data line (cause_word Malformed)
@@ -94,6 +103,16 @@ refused_data line (WrongKind name) = named_data line name (cause_word (WrongKind
 refused_data line (Undeclared name) = named_data line name (cause_word (Undeclared name))
 refused_data line TooManyFacts = plain_data line (cause_word TooManyFacts)
 refused_data line (Contradiction clash) = clash_data line clash (cause_word (Contradiction clash))
+refused_data line Closed = plain_data line (cause_word Closed)
+refused_data line (NameTwice name) = named_data line name (cause_word (NameTwice name))
+refused_data line TooMany = plain_data line (cause_word TooMany)
+refused_data line (TooLarge total) = large_data line total (cause_word (TooLarge total))
+
+-- the name that a line declared
+unfoldable pub declared_data : ℕ → Text → Data
+declared_data line name =
+    object (member (codes "declared") (string name)
+    (member (codes "line") (count_data line) no_members))
 
 unfoldable pub end_data : ℕ → ℕ → Data
 end_data accepted refused =
@@ -105,6 +124,7 @@ end_data accepted refused =
 abbrev pub event_data : Declared → List Tcq → Event → Data
 event_data ontology queries (Accepted line accepted answers kept) =
     accepted_data line accepted (answers_data ontology.individuals queries kept answers)
+event_data ontology queries (Arrived line name) = declared_data line name
 event_data ontology queries (Refused line cause) = refused_data line cause
 event_data ontology queries (End accepted refused) = end_data accepted refused
 

@@ -3,19 +3,25 @@
 ghost use Rattle.std.specs.Prelude.{◌≡◌, ◌++◌, OnOk, OnErr, IfOk, take, vec_len, flat_map};
 ghost use Rattle.dl_syntax.specs.Names.{IsName};
 ghost use Rattle.report_text.specs.Names.{AreNamed, AreSpelled, IsSpelledCause};
-ghost use Rattle.report_text.specs.Lines.{accepted_in, answers_in, end_in, line_in, refused_in};
-ghost use Rattle.report_text.specs.Lines.{size_in};
+ghost use Rattle.report_text.specs.Lines.{accepted_in, answers_in, declared_in, end_in, line_in};
+ghost use Rattle.report_text.specs.Lines.{refused_in, size_in};
 ghost use Rattle.report_text.specs.Objects.{object_text};
 ghost use Rattle.report_text.specs.Events.{AreAnswered, EventHasNames, event_text, items_of};
 ghost use Rattle.report_text.specs.Events.{query_items, report_heading_text};
 
 use crate::item::Cause;
-use crate::line::{append_answers, append_kept, append_refused, append_two, heading};
-use crate::object::{append_accepted_object, append_end_object, append_refused_object, size_of};
-use crate::row::{
-    append_accepted_row, append_answer_rows, append_end_row, append_kept_row, append_refused_row,
+use crate::line::{
+    append_answers, append_declared, append_kept, append_refused, append_two, heading,
 };
-use dl_syntax::{Items, Memory, Ontology, Tuples};
+use crate::object::{
+    append_accepted_object, append_declared_object, append_end_object, append_refused_object,
+    size_of,
+};
+use crate::row::{
+    append_accepted_row, append_answer_rows, append_declared_row, append_end_row, append_kept_row,
+    append_refused_row,
+};
+use dl_syntax::{Items, Memory, Name, Ontology, Tuples};
 use forms::{LineForm, ReportForm};
 use std::alloc::Global;
 use tcq_syntax::Query;
@@ -32,6 +38,11 @@ pub enum Event {
         answers: Items<Tuples>,
         /// How much each query keeps after it, in the same order, where that is told.
         kept: Option<Items<u64>>,
+    },
+    /// The line with this number declared an individual of this name.
+    Declared {
+        line: u64,
+        name: Name,
     },
     /// The line with this number was refused.
     Refused {
@@ -141,6 +152,7 @@ fn append_object(
             let answers = answers.as_slice();
             append_accepted_object(out, *line, *number, ontology, queries, kept, answers)
         }
+        Event::Declared { line, name } => append_declared_object(out, *line, name.bytes()),
         Event::Refused { line, cause } => append_refused_object(out, *line, cause),
         Event::End { accepted, refused } => append_end_object(out, *accepted, *refused),
     }
@@ -175,6 +187,7 @@ fn append_items(
             };
             append_queries(out, told, ontology, queries, kept, answers)
         }
+        Event::Declared { line, name } => append_arrival(out, form, *line, name.bytes()),
         Event::Refused { line, cause } => append_refusal(out, form, *line, cause),
         Event::End { accepted, refused } => append_last(out, form, *accepted, *refused),
     }
@@ -188,6 +201,18 @@ fn append_accepted(out: &mut Vec<u8>, form: LineForm, line: u64, number: u64) ->
     match form {
         LineForm::Text => append_two(out, b"line ", line, b" accepted ", number),
         LineForm::Csv => append_accepted_row(out, line, number),
+    }
+}
+
+/// Appends the line of a name that was declared. What stood before stays, also on an error.
+fn append_arrival(out: &mut Vec<u8>, form: LineForm, line: u64, name: &[u8]) -> Result<(), Memory>
+    requires { IsName name.now }
+    ensures ok { OnOk result (out.new.items ≡ out.old.items ++ declared_in form line name.now) }
+    ensures kept { take (vec_len out.old) out.new.items ≡ out.old.items }
+{
+    match form {
+        LineForm::Text => append_declared(out, line, name),
+        LineForm::Csv => append_declared_row(out, line, name),
     }
 }
 

@@ -18,6 +18,14 @@ pub enum Cause {
     TooManyFacts,
     /// The least clash that the snapshot meets, counted from 1.
     Contradiction(u32),
+    /// No further name may come.
+    Closed,
+    /// A name that is declared already.
+    NameTwice(Name),
+    /// There are as many individuals as there may be.
+    TooMany,
+    /// The units of the queries, so many with the name, are too many.
+    TooLarge(u128),
 }
 
 /// One thing that a report tells.
@@ -41,6 +49,11 @@ pub enum Item {
         line: u64,
         query: u16,
         size: u64,
+    },
+    /// The line declared an individual of this name.
+    Declared {
+        line: u64,
+        name: Name,
     },
     /// The line was refused.
     Refused {

@@ -1,14 +1,15 @@
 //! The bytes of a report's lines, appended to a buffer that is used again.
 
 ghost use Rattle.std.specs.Prelude.{◌≡◌, ◌++◌, ◌<◌, All, [], length, OnOk, OnErr, IfOk, take};
-ghost use Rattle.std.specs.Prelude.{vec_len};
+ghost use Rattle.std.specs.Prelude.{vec_len, decimal};
 ghost use Rattle.report_text.specs.Names.{IsNamed, AreNamed, HasNames};
 ghost use Rattle.report_text.specs.Lines.{IsSpelledIn, cause_text, row_text, answer_text};
 ghost use Rattle.report_text.specs.Lines.{answers_text, kept_text, two_text, refused_text};
+ghost use Rattle.report_text.specs.Lines.{declared_text};
 ghost use Rattle.report_text.specs.Lines.{line_text, line_in, heading_text};
 
 use crate::item::{Cause, Item};
-use crate::numbers::append_number;
+use crate::numbers::{append_number, append_wide_number};
 use crate::row::append_item_row;
 use dl_syntax::{IndId, Kind, Memory, Ontology, Tuples};
 use forms::LineForm;
@@ -38,13 +39,24 @@ fn append_cause(out: &mut Vec<u8>, cause: &Cause) -> Result<(), Memory>
         Cause::WrongKind(name) => append_named(out, b"wrong-kind ", name.bytes()),
         Cause::Undeclared(name) => append_named(out, b"undeclared ", name.bytes()),
         Cause::TooManyFacts => out.extend_from_slice(b"too-many-facts"),
-        Cause::Contradiction(clash) => {
-            out.extend_from_slice(b"contradiction ")?;
-            append_number(out, *clash as u64)
-        }
+        Cause::Contradiction(clash) => append_counted(out, b"contradiction ", *clash as u128),
+        Cause::Closed => out.extend_from_slice(b"closed"),
+        Cause::NameTwice(name) => append_named(out, b"name-twice ", name.bytes()),
+        Cause::TooMany => out.extend_from_slice(b"too-many"),
+        Cause::TooLarge(total) => append_counted(out, b"too-large ", *total),
     }
 }
 
+/// Appends a word and a number. What stood before stays, also on an error.
+fn append_counted(out: &mut Vec<u8>, word: &[u8], number: u128) -> Result<(), Memory>
+    ensures ok { OnOk result (out.new.items ≡ out.old.items ++ (word.now ++ decimal number)) }
+    ensures kept { take (vec_len out.old) out.new.items ≡ out.old.items }
+{
+    out.extend_from_slice(word)?;
+    append_wide_number(out, number)
+}
+
+/// Appends a word and a name. What stood before stays, also on an error.
 fn append_named(out: &mut Vec<u8>, word: &[u8], name: &[u8]) -> Result<(), Memory>
     ensures ok { OnOk result (out.new.items ≡ out.old.items ++ (word.now ++ name.now)) }
     ensures kept { take (vec_len out.old) out.new.items ≡ out.old.items }
@@ -138,6 +150,18 @@ pub(crate) fn append_kept(out: &mut Vec<u8>, query: &[u8], size: u64) -> Result<
     out.extend_from_slice(b"\n")
 }
 
+/// Appends the line of a name that was declared. What stood before stays, also on an error.
+pub(crate) fn append_declared(out: &mut Vec<u8>, line: u64, name: &[u8]) -> Result<(), Memory>
+    ensures ok { OnOk result (out.new.items ≡ out.old.items ++ declared_text line name.now) }
+    ensures kept { take (vec_len out.old) out.new.items ≡ out.old.items }
+{
+    out.extend_from_slice(b"line ")?;
+    append_number(out, line)?;
+    out.extend_from_slice(b" declared ")?;
+    out.extend_from_slice(name)?;
+    out.extend_from_slice(b"\n")
+}
+
 /// Appends the line of a refusal.
 pub(crate) fn append_refused(out: &mut Vec<u8>, line: u64, cause: &Cause) -> Result<(), Memory>
     ensures ok { OnOk result (out.new.items ≡ out.old.items ++ refused_text line cause.now) }
@@ -175,6 +199,7 @@ fn append_item_text(
         Item::Kept { query, size, .. } => {
             append_kept(out, queries[*query as usize].name().bytes(), *size)
         }
+        Item::Declared { line, name } => append_declared(out, *line, name.bytes()),
         Item::Refused { line, cause } => append_refused(out, *line, cause),
         Item::End { accepted, refused } => {
             append_two(out, b"end accepted ", *accepted, b" refused ", *refused)

@@ -10,7 +10,8 @@ ghost use Rattle.report_text.specs.Names.{AreIndividualsSpelled, AreNamed, AreSp
 ghost use Rattle.report_text.specs.Names.{IsSpelledCause};
 ghost use Rattle.report_text.specs.Rows.{cause_word};
 ghost use Rattle.report_text.specs.Objects.{IsVerbatim, accepted_data, answers_data, clash_data};
-ghost use Rattle.report_text.specs.Objects.{end_data, name_data, named_data, object_line};
+ghost use Rattle.report_text.specs.Objects.{declared_data, end_data, large_data, name_data};
+ghost use Rattle.report_text.specs.Objects.{named_data, object_line};
 ghost use Rattle.report_text.specs.Objects.{plain_data, queries_data, query_data, refused_data};
 ghost use Rattle.report_text.specs.Objects.{size_at, size_text, tuple_data, value_text};
 ghost use Rattle.report_text.specs.Events.{AreAnswered};
@@ -20,6 +21,7 @@ use crate::names::{individual_name, individuals_are_spelled};
 use crate::numbers::append_number;
 use crate::row::word_of;
 use dl_syntax::{IndId, Items, Memory, Ontology, Tuples};
+use itoa::Buffer;
 use tcq_syntax::Query;
 
 /// The word for a cause, which needs no escapes.
@@ -48,6 +50,15 @@ fn append_name(out: &mut Vec<u8>, name: &[u8]) -> Result<(), Memory>
     ensures kept { take (vec_len out.old) out.new.items ≡ out.old.items }
 {
     append_string(out, name)
+}
+
+/// Appends the decimal digits of a number as a string. What stood before stays, also on an error.
+fn append_digits(out: &mut Vec<u8>, number: u128) -> Result<(), Memory>
+    ensures ok { OnOk result (out.new.items ≡ out.old.items ++ value_text (string (decimal number))) }
+    ensures kept { take (vec_len out.old) out.new.items ≡ out.old.items }
+{
+    let mut buffer = Buffer::new();
+    append_string(out, buffer.format(number).as_bytes())
 }
 
 /// Appends a word and a number. What stood before stays, also on an error.
@@ -316,6 +327,55 @@ fn append_clash(out: &mut Vec<u8>, line: u64, clash: u64, word: &[u8]) -> Result
     append_word(out, word)
 }
 
+/// Appends the members of a refusal that are the line and the word. What stood before stays, also
+/// on an error.
+fn append_refused_word(out: &mut Vec<u8>, line: u64, word: &[u8]) -> Result<(), Memory>
+    requires { IsVerbatim word.now }
+    ensures ok { OnOk result (out.new.items ≡ out.old.items ++ ((codes "{\"line\":" ++ decimal line)
+        ++ (codes ",\"refused\":" ++ value_text (string word.now)))) }
+    ensures kept { take (vec_len out.old) out.new.items ≡ out.old.items }
+{
+    append_counted(out, b"{\"line\":", line)?;
+    out.extend_from_slice(b",\"refused\":")?;
+    append_string(out, word)
+}
+
+/// Appends so many units and the end of the object. What stood before stays, also on an error.
+fn append_units(out: &mut Vec<u8>, total: u128) -> Result<(), Memory>
+    ensures ok { OnOk result (out.new.items ≡ out.old.items
+        ++ (codes ",\"units\":" ++ (value_text (string (decimal total)) ++ codes "}\n"))) }
+    ensures kept { take (vec_len out.old) out.new.items ≡ out.old.items }
+{
+    out.extend_from_slice(b",\"units\":")?;
+    append_digits(out, total)?;
+    out.extend_from_slice(b"}\n")
+}
+
+/// Appends the object of a refusal for so many units. What stood before stays, also on an error.
+fn append_large(out: &mut Vec<u8>, line: u64, total: u128, word: &[u8]) -> Result<(), Memory>
+    requires { IsVerbatim word.now }
+    ensures ok { OnOk result
+        (out.new.items ≡ out.old.items ++ object_line (large_data line total word.now)) }
+    ensures kept { take (vec_len out.old) out.new.items ≡ out.old.items }
+{
+    append_refused_word(out, line, word)?;
+    append_units(out, total)
+}
+
+/// Appends the object of a name that was declared, with its newline. What stood before stays, also
+/// on an error.
+pub fn append_declared_object(out: &mut Vec<u8>, line: u64, name: &[u8]) -> Result<(), Memory>
+    requires { IsName name.now }
+    ensures ok { OnOk result
+        (out.new.items ≡ out.old.items ++ object_line (declared_data line name.now)) }
+    ensures kept { take (vec_len out.old) out.new.items ≡ out.old.items }
+{
+    out.extend_from_slice(b"{\"declared\":")?;
+    append_name(out, name)?;
+    append_counted(out, b",\"line\":", line)?;
+    out.extend_from_slice(b"}\n")
+}
+
 /// Appends the object of a refusal. What stood before stays, also on an error.
 #[tactic(auto, unfolding(crate::specs::Objects::refused_data))]
 pub fn append_refused_object(out: &mut Vec<u8>, line: u64, cause: &Cause) -> Result<(), Memory>
@@ -333,6 +393,10 @@ pub fn append_refused_object(out: &mut Vec<u8>, line: u64, cause: &Cause) -> Res
         Cause::Undeclared(name) => append_named(out, line, name.bytes(), word),
         Cause::TooManyFacts => append_plain(out, line, word),
         Cause::Contradiction(clash) => append_clash(out, line, *clash as u64, word),
+        Cause::Closed => append_plain(out, line, word),
+        Cause::NameTwice(name) => append_named(out, line, name.bytes(), word),
+        Cause::TooMany => append_plain(out, line, word),
+        Cause::TooLarge(total) => append_large(out, line, *total, word),
     }
 }
 

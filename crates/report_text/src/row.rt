@@ -5,15 +5,15 @@ ghost use Rattle.arrayvec.specs.ArrayVec.{array_vec_len};
 ghost use Rattle.dl_syntax.specs.Names.{IsName};
 ghost use Rattle.report_text.specs.Names.{IsNamed, AreNamed, HasNames, AreSpelled, IsSpelledCause};
 ghost use Rattle.report_text.specs.Names.{IsSpelledItem};
-ghost use Rattle.report_text.specs.Rows.{HasSmallClash, cause_word, cause_name, cause_number};
+ghost use Rattle.report_text.specs.Rows.{HasSmallNumber, cause_word, cause_name, cause_number};
 ghost use Rattle.report_text.specs.Rows.{individuals_text, accepted_row, answer_row, answer_rows};
 ghost use Rattle.report_text.specs.Rows.{answer_front, answer_detail, kept_row, refused_row};
-ghost use Rattle.report_text.specs.Rows.{end_row, item_row};
+ghost use Rattle.report_text.specs.Rows.{declared_row, end_row, item_row};
 
 use crate::item::{Cause, Item};
 use crate::line::append_row;
 use crate::names::{individual_name, individuals_are_spelled};
-use crate::numbers::append_number;
+use crate::numbers::{append_number, append_wide_number};
 use arrayvec::ArrayVec;
 use dl_syntax::{IndId, Memory, Ontology, Tuples};
 use itoa::Buffer;
@@ -34,6 +34,10 @@ pub fn word_of(cause: &Cause) -> &'static [u8]
         Cause::Undeclared(_) => b"undeclared",
         Cause::TooManyFacts => b"too-many-facts",
         Cause::Contradiction(_) => b"contradiction",
+        Cause::Closed => b"closed",
+        Cause::NameTwice(_) => b"name-twice",
+        Cause::TooMany => b"too-many",
+        Cause::TooLarge(_) => b"too-large",
     }
 }
 
@@ -45,19 +49,21 @@ fn name_of(cause: &Cause) -> &[u8]
         Cause::Unknown(name) => name.bytes(),
         Cause::WrongKind(name) => name.bytes(),
         Cause::Undeclared(name) => name.bytes(),
+        Cause::NameTwice(name) => name.bytes(),
         _ => b"",
     }
 }
 
-/// Appends the number of the clash that is met, where that is the cause. What stood before stays,
-/// also on an error.
-fn append_clash(out: &mut Vec<u8>, cause: &Cause) -> Result<(), Memory>
+/// Appends the number that the cause has, where it has one. What stood before stays, also on an
+/// error.
+fn append_count(out: &mut Vec<u8>, cause: &Cause) -> Result<(), Memory>
     ensures ok { OnOk result (out.new.items ≡ out.old.items ++ cause_number cause.now) }
-    ensures small { HasSmallClash cause.now }
+    ensures small { HasSmallNumber cause.now }
     ensures kept { take (vec_len out.old) out.new.items ≡ out.old.items }
 {
     match cause {
         Cause::Contradiction(clash) => append_number(out, *clash as u64),
+        Cause::TooLarge(total) => append_wide_number(out, *total),
         _ => Ok(()),
     }
 }
@@ -191,6 +197,18 @@ pub fn append_kept_row(out: &mut Vec<u8>, line: u64, size: u64, query: &[u8]) ->
     out.extend_from_slice(b",\n")
 }
 
+/// Appends the row of a name that was declared. What stood before stays, also on an error.
+pub fn append_declared_row(out: &mut Vec<u8>, line: u64, name: &[u8]) -> Result<(), Memory>
+    requires { IsName name.now }
+    ensures ok { OnOk result (out.new.items ≡ out.old.items ++ declared_row line name.now) }
+    ensures kept { take (vec_len out.old) out.new.items ≡ out.old.items }
+{
+    append_number(out, line)?;
+    out.extend_from_slice(b",declared,,")?;
+    out.extend_from_slice(name)?;
+    out.extend_from_slice(b",\n")
+}
+
 /// Appends the last two fields of a row. What stood before stays, also on an error.
 fn append_last_fields(out: &mut Vec<u8>, name: &[u8], detail: &[u8]) -> Result<(), Memory>
     ensures ok { OnOk result (out.new.items
@@ -212,7 +230,7 @@ pub fn append_refused_row(out: &mut Vec<u8>, line: u64, cause: &Cause) -> Result
 {
     append_number(out, line)?;
     out.extend_from_slice(b",refused,")?;
-    append_clash(out, cause)?;
+    append_count(out, cause)?;
     append_last_fields(out, word_of(cause), name_of(cause))
 }
 
@@ -256,6 +274,7 @@ pub fn append_item_row(
         Item::Kept { line, query, size } => {
             append_kept_row(out, *line, *size, queries[*query as usize].name().bytes())
         }
+        Item::Declared { line, name } => append_declared_row(out, *line, name.bytes()),
         Item::Refused { line, cause } => append_refused_row(out, *line, cause),
         Item::End { accepted, refused } => append_end_row(out, *accepted, *refused),
     }

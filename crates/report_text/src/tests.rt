@@ -1,6 +1,7 @@
 //! The exact bytes of each kind of line, and of a conjunctive query.
 ghost use Rattle.std.specs.Prelude.{◌≡◌, [], IfOk, codes};
 ghost use Rattle.dl_syntax.specs.Ontology.{nothing_declared};
+ghost use Rattle.dl_syntax.specs.Names.{IsName};
 ghost use Rattle.report_text.specs.Events.{HasAnswers, IsSpelledEvent};
 
 use crate::{
@@ -100,6 +101,72 @@ fn tells_a_contradiction(rt: HostRuntime) {
     let out = in_each_form(rt.alloc(), &event).expect(&rt, "memory");
     let wanted =
         b"line 4 refused contradiction 2\n4,refused,2,contradiction,\n{\"clash\":2,\"line\":4,\"refused\":\"contradiction\"}\n";
+    assert_eq!(rt; out.as_slice(), wanted.as_slice());
+}
+
+/// The name `s3`.
+fn third(alloc: Global) -> Result<Name, Memory>
+    ensures { IfOk result IsName }
+{
+    Name::new(alloc, b"s3")
+}
+
+#[test]
+fn tells_a_declared_name(rt: HostRuntime) {
+    let event = Event::Declared {
+        line: 2,
+        name: third(rt.alloc()).expect(&rt, "memory"),
+    };
+    let out = in_each_form(rt.alloc(), &event).expect(&rt, "memory");
+    let wanted = b"line 2 declared s3\n2,declared,,s3,\n{\"declared\":\"s3\",\"line\":2}\n";
+    assert_eq!(rt; out.as_slice(), wanted.as_slice());
+}
+
+#[test]
+fn tells_a_name_that_comes_twice(rt: HostRuntime) {
+    let event = Event::Refused {
+        line: 1,
+        cause: Cause::NameTwice(third(rt.alloc()).expect(&rt, "memory")),
+    };
+    let out = in_each_form(rt.alloc(), &event).expect(&rt, "memory");
+    let wanted =
+        b"line 1 refused name-twice s3\n1,refused,,name-twice,s3\n{\"line\":1,\"name\":\"s3\",\"refused\":\"name-twice\"}\n";
+    assert_eq!(rt; out.as_slice(), wanted.as_slice());
+}
+
+#[test]
+fn tells_too_many_units(rt: HostRuntime) {
+    let event = Event::Refused {
+        line: 1,
+        cause: Cause::TooLarge(67_108_865),
+    };
+    let out = in_each_form(rt.alloc(), &event).expect(&rt, "memory");
+    let wanted =
+        b"line 1 refused too-large 67108865\n1,refused,67108865,too-large,\n{\"line\":1,\"refused\":\"too-large\",\"units\":\"67108865\"}\n";
+    assert_eq!(rt; out.as_slice(), wanted.as_slice());
+}
+
+#[test]
+fn tells_that_no_name_may_come(rt: HostRuntime) {
+    let event = Event::Refused {
+        line: 1,
+        cause: Cause::Closed,
+    };
+    let out = in_each_form(rt.alloc(), &event).expect(&rt, "memory");
+    let wanted =
+        b"line 1 refused closed\n1,refused,,closed,\n{\"line\":1,\"refused\":\"closed\"}\n";
+    assert_eq!(rt; out.as_slice(), wanted.as_slice());
+}
+
+#[test]
+fn tells_too_many_individuals(rt: HostRuntime) {
+    let event = Event::Refused {
+        line: 1,
+        cause: Cause::TooMany,
+    };
+    let out = in_each_form(rt.alloc(), &event).expect(&rt, "memory");
+    let wanted =
+        b"line 1 refused too-many\n1,refused,,too-many,\n{\"line\":1,\"refused\":\"too-many\"}\n";
     assert_eq!(rt; out.as_slice(), wanted.as_slice());
 }
 
