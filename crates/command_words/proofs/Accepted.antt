@@ -12,7 +12,7 @@ use Rattle.clap.proofs.FaultLemmas.{leaf_fault}
 use Rattle.clap.proofs.OnLiterals.{clap_on_literals}
 use Rattle.command_words.specs.declared.names.CommandName.{CommandName}
 use Rattle.command_words.specs.declared.names.CommandName.TheVariants.{Watch, Rewrite, Contain}
-use Rattle.command_words.specs.declared.names.CommandName.TheVariants.{Drill}
+use Rattle.command_words.specs.declared.names.CommandName.TheVariants.{Audit, Drill}
 use Rattle.command_words.specs.Commands.{app_of_command, faults_in, rows_in}
 use Rattle.command_words.specs.Meanings.{is_file}
 use Rattle.command_words.specs.Canonical.{AreOnce, Choice, option_words}
@@ -30,6 +30,7 @@ unfolding app_of_command
 arguments_are Watch word words = refl
 arguments_are Rewrite word words = refl
 arguments_are Contain word words = refl
+arguments_are Audit word words = refl
 arguments_are Drill word words = refl
 
 no_subs : (c : CommandName) → (built (app_of_command c)).subs ≡ []
@@ -37,6 +38,7 @@ unfolding app_of_command clap_on_literals
 no_subs Watch = refl
 no_subs Rewrite = refl
 no_subs Contain = refl
+no_subs Audit = refl
 no_subs Drill = refl
 
 -- ---- words that clap's exact function takes

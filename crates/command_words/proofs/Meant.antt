@@ -7,7 +7,7 @@ use Rattle.std.proofs.lemmas.Bool.Decides.{nat_tests}
 use Rattle.clap.specs.Walk.{Row, Text, first_of, has_row}
 use Rattle.command_words.specs.declared.names.CommandName.{CommandName}
 use Rattle.command_words.specs.declared.names.CommandName.TheVariants.{Watch, Rewrite, Contain}
-use Rattle.command_words.specs.declared.names.CommandName.TheVariants.{Drill}
+use Rattle.command_words.specs.declared.names.CommandName.TheVariants.{Audit, Drill}
 use Rattle.forms.specs.declared.StreamForm.TheVariants as stream
 use Rattle.forms.specs.declared.LineForm.TheVariants as line
 use Rattle.forms.specs.declared.ReportForm.TheVariants as report
@@ -60,6 +60,11 @@ contain_is_named : (a b : Text) → is_file a ≡ true → is_file b ≡ true
     → command_of (codes "contain" ∷ a ∷ b ∷ []) ≡ Some Contain
 unfolding command_of
 contain_is_named a b first second = rw (file_is_fine a first, file_is_fine b second)
+
+audit_is_named : (a b : Text) → is_file a ≡ true → is_file b ≡ true
+    → command_of (codes "audit" ∷ a ∷ b ∷ []) ≡ Some Audit
+unfolding command_of
+audit_is_named a b first second = rw (file_is_fine a first, file_is_fine b second)
 
 drill_is_named : (a b : Text) → is_file a ≡ true → is_file b ≡ true
     → command_of (codes "drill" ∷ a ∷ b ∷ []) ≡ Some Drill
@@ -187,6 +192,11 @@ contain_means : (a b : Text) → is_file a ≡ true → is_file b ≡ true
 unfolding meaning_in
 contain_means a b first second = rw (ontology_is a b [] first, queries_is a b [] second)
 
+audit_means : (a b : Text) → is_file a ≡ true → is_file b ≡ true
+    → meaning_in Audit (place_rows Audit a b) ≡ Some (canonical_meaning (said.audit a b))
+unfolding meaning_in
+audit_means a b first second = rw (ontology_is a b [] first, queries_is a b [] second)
+
 seed_is : (a b : Text) (n : ℕ) → n ≤ 2147483647 → a ≡ decimal n
     → number_in 2147483647 (codes "seed") (place_rows Drill a b) ≡ Some n
 unfolding number_in
@@ -222,6 +232,9 @@ canonical_means (said.rewrite a b) good =
 canonical_means (said.contain a b) good =
     taken_mean Contain (codes "contain") (a ∷ b ∷ []) _ _ (contain_is_named a b good.0 good.1)
     (two_are_taken Contain a b good.0 good.1 refl) (contain_means a b good.0 good.1)
+canonical_means (said.audit a b) good =
+    taken_mean Audit (codes "audit") (a ∷ b ∷ []) _ _ (audit_is_named a b good.0 good.1)
+    (two_are_taken Audit a b good.0 good.1 refl) (audit_means a b good.0 good.1)
 canonical_means (said.drill seed count) good =
     let first = decimal_is_file seed (omega (arith, good.0)) in
     let second = decimal_is_file count (omega (arith, good.1)) in

@@ -10,7 +10,7 @@ use Rattle.clap.specs.Faults.{check_fault, defaults_fault, settle_fault, turn_fa
 use Rattle.clap.proofs.OnLiterals.{clap_on_literals}
 use Rattle.command_words.specs.declared.names.CommandName.{CommandName}
 use Rattle.command_words.specs.declared.names.CommandName.TheVariants.{Watch, Rewrite, Contain}
-use Rattle.command_words.specs.declared.names.CommandName.TheVariants.{Drill}
+use Rattle.command_words.specs.declared.names.CommandName.TheVariants.{Audit, Drill}
 use Rattle.command_words.specs.Meanings.{is_file}
 use Rattle.command_words.specs.Canonical.{AreOnce, Choice, form, name_of, option_word, option_words}
 use Rattle.command_words.specs.Canonical.{report_as, report_word, sizes, stream_word}
@@ -111,6 +111,7 @@ unfolding rules clap_on_literals
 first_passes Watch a file = let plain = file_is_plain a file in rw (plain.2, plain.0, plain.1)
 first_passes Rewrite a file = let plain = file_is_plain a file in rw (plain.2, plain.0, plain.1)
 first_passes Contain a file = let plain = file_is_plain a file in rw (plain.2, plain.0, plain.1)
+first_passes Audit a file = let plain = file_is_plain a file in rw (plain.2, plain.0, plain.1)
 first_passes Drill a file = let plain = file_is_plain a file in rw (plain.2, plain.0, plain.1)
 
 second_passes : (c : CommandName) (a b : Text) → is_file b ≡ true
@@ -119,6 +120,7 @@ unfolding rules clap_on_literals
 second_passes Watch a b file = let plain = file_is_plain b file in rw (plain.2, plain.0, plain.1)
 second_passes Rewrite a b file = let plain = file_is_plain b file in rw (plain.2, plain.0, plain.1)
 second_passes Contain a b file = let plain = file_is_plain b file in rw (plain.2, plain.0, plain.1)
+second_passes Audit a b file = let plain = file_is_plain b file in rw (plain.2, plain.0, plain.1)
 second_passes Drill a b file = let plain = file_is_plain b file in rw (plain.2, plain.0, plain.1)
 
 pub places_settle : (c : CommandName) (a b : Text)
@@ -127,6 +129,7 @@ unfolding rules clap_on_literals
 places_settle Watch a b = refl
 places_settle Rewrite a b = refl
 places_settle Contain a b = refl
+places_settle Audit a b = refl
 places_settle Drill a b = refl
 
 pub words_pass : (c : CommandName) (a b : Text) (rest : List Text) → is_file a ≡ true
@@ -155,6 +158,7 @@ unfolding rules clap_on_literals
 defaults_pass Watch rows = simp (or_true, same_either)
 defaults_pass Rewrite rows = simp (or_true, same_either)
 defaults_pass Contain rows = simp (or_true, same_either)
+defaults_pass Audit rows = simp (or_true, same_either)
 defaults_pass Drill rows = simp (or_true, same_either)
 
 -- the rows with the flag's default, which is the only one
@@ -162,6 +166,7 @@ abbrev pub with_flag : CommandName → List Row → List Row
 with_flag Watch rows = with_default rows sizes_built
 with_flag Rewrite rows = rows
 with_flag Contain rows = rows
+with_flag Audit rows = rows
 with_flag Drill rows = rows
 
 pub finished_is : (c : CommandName) (rows : List Row)
@@ -170,6 +175,7 @@ unfolding rules clap_on_literals
 finished_is Watch rows = simp same_either
 finished_is Rewrite rows = simp same_either
 finished_is Contain rows = simp same_either
+finished_is Audit rows = simp same_either
 finished_is Drill rows = simp same_either
 
 -- both words are there
@@ -179,4 +185,5 @@ unfolding rules clap_on_literals
 check_passes Watch a b tail = refl
 check_passes Rewrite a b tail = refl
 check_passes Contain a b tail = refl
+check_passes Audit a b tail = refl
 check_passes Drill a b tail = refl

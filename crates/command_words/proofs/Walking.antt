@@ -9,7 +9,7 @@ use Rattle.clap.specs.Simple.{Shape, built, filled, names_of, new_shape, with_in
 use Rattle.clap.proofs.OnLiterals.{clap_on_literals}
 use Rattle.command_words.specs.declared.names.CommandName.{CommandName}
 use Rattle.command_words.specs.declared.names.CommandName.TheVariants.{Watch, Rewrite, Contain}
-use Rattle.command_words.specs.declared.names.CommandName.TheVariants.{Drill}
+use Rattle.command_words.specs.declared.names.CommandName.TheVariants.{Audit, Drill}
 use Rattle.forms.specs.declared.StreamForm.{StreamForm}
 use Rattle.forms.specs.declared.StreamForm.TheVariants as stream
 use Rattle.forms.specs.declared.ReportForm.{ReportForm}
@@ -35,24 +35,28 @@ abbrev pub first_id : CommandName → Text
 first_id Watch = codes "ontology"
 first_id Rewrite = codes "ontology"
 first_id Contain = codes "ontology"
+first_id Audit = codes "ontology"
 first_id Drill = codes "seed"
 
 abbrev pub second_id : CommandName → Text
 second_id Watch = codes "queries"
 second_id Rewrite = codes "queries"
 second_id Contain = codes "queries"
+second_id Audit = codes "queries"
 second_id Drill = codes "count"
 
 abbrev pub command_name : CommandName → Text
 command_name Watch = codes "watch"
 command_name Rewrite = codes "rewrite"
 command_name Contain = codes "contain"
+command_name Audit = codes "audit"
 command_name Drill = codes "drill"
 
 abbrev option_rules : CommandName → List Rule
 option_rules Watch = value_built (codes "form") ∷ value_built (codes "report") ∷ sizes_built ∷ []
 option_rules Rewrite = []
 option_rules Contain = []
+option_rules Audit = []
 option_rules Drill = []
 
 unfoldable pub rules : CommandName → List Rule
@@ -72,6 +76,7 @@ unfolding app_of_command rules clap_on_literals
 shape_is Watch = refl
 shape_is Rewrite = refl
 shape_is Contain = refl
+shape_is Audit = refl
 shape_is Drill = refl
 
 pub no_names : (c : CommandName) → names_of (built (app_of_command c)) ≡ []
@@ -79,6 +84,7 @@ unfolding app_of_command clap_on_literals
 no_names Watch = refl
 no_names Rewrite = refl
 no_names Contain = refl
+no_names Audit = refl
 no_names Drill = refl
 
 -- ---- words that may name a file
@@ -233,6 +239,7 @@ unfolding walked rules clap_on_literals
 first_step Watch a file = let plain = file_is_plain a file in rw (plain.2, plain.0, plain.1)
 first_step Rewrite a file = let plain = file_is_plain a file in rw (plain.2, plain.0, plain.1)
 first_step Contain a file = let plain = file_is_plain a file in rw (plain.2, plain.0, plain.1)
+first_step Audit a file = let plain = file_is_plain a file in rw (plain.2, plain.0, plain.1)
 first_step Drill a file = let plain = file_is_plain a file in rw (plain.2, plain.0, plain.1)
 
 pub second_step : (c : CommandName) (a b : Text) → is_file b ≡ true
@@ -241,6 +248,7 @@ unfolding walked rules clap_on_literals
 second_step Watch a b file = let plain = file_is_plain b file in rw (plain.2, plain.0, plain.1)
 second_step Rewrite a b file = let plain = file_is_plain b file in rw (plain.2, plain.0, plain.1)
 second_step Contain a b file = let plain = file_is_plain b file in rw (plain.2, plain.0, plain.1)
+second_step Audit a b file = let plain = file_is_plain b file in rw (plain.2, plain.0, plain.1)
 second_step Drill a b file = let plain = file_is_plain b file in rw (plain.2, plain.0, plain.1)
 
 pub walk_words : (c : CommandName) (a b : Text) (rest : List Text) → is_file a ≡ true

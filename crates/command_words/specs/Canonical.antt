@@ -13,7 +13,8 @@ use Rattle.command_words.specs.declared.request.Request.{Request}
 use Rattle.command_words.specs.declared.request.WordsFault.{WordsFault}
 use Rattle.command_words.specs.declared.request.WordsFault.TheVariants.{Memory}
 use Rattle.command_words.specs.Meanings.{Meaning, is_file, meaning_of, watch as watches}
-use Rattle.command_words.specs.Meanings.{rewrite as rewrites, contain as contains, drill as drills}
+use Rattle.command_words.specs.Meanings.{rewrite as rewrites, contain as contains}
+use Rattle.command_words.specs.Meanings.{audit as audits, drill as drills}
 
 -- an option of a watch, with its value
 pub data Choice : Type 0 where
@@ -26,6 +27,7 @@ pub data Canonical : Type 0 where
   watch : Text → Text → List Choice → Canonical
   rewrite : Text → Text → Canonical
   contain : Text → Text → Canonical
+  audit : Text → Text → Canonical
   drill : ℕ → ℕ → Canonical
 
 -- ---- the words
@@ -64,6 +66,7 @@ canonical_words (watch ontology queries choices) =
     codes "watch" ∷ ontology ∷ queries ∷ option_words choices
 canonical_words (rewrite ontology queries) = codes "rewrite" ∷ ontology ∷ queries ∷ []
 canonical_words (contain ontology queries) = codes "contain" ∷ ontology ∷ queries ∷ []
+canonical_words (audit ontology queries) = codes "audit" ∷ ontology ∷ queries ∷ []
 canonical_words (drill seed count) = codes "drill" ∷ decimal seed ∷ decimal count ∷ []
 
 -- ---- which are canonical
@@ -84,6 +87,7 @@ IsCanonical (watch ontology queries choices) = (is_file ontology ≡ true) × (i
     × AreOnce choices
 IsCanonical (rewrite ontology queries) = (is_file ontology ≡ true) × (is_file queries ≡ true)
 IsCanonical (contain ontology queries) = (is_file ontology ≡ true) × (is_file queries ≡ true)
+IsCanonical (audit ontology queries) = (is_file ontology ≡ true) × (is_file queries ≡ true)
 IsCanonical (drill seed count) = (seed ≤ 2147483647) × (count ≤ 100000)
 
 -- ---- what they say
@@ -113,6 +117,7 @@ canonical_meaning (watch ontology queries choices) = watches (record {
 })
 canonical_meaning (rewrite ontology queries) = rewrites ontology queries
 canonical_meaning (contain ontology queries) = contains ontology queries
+canonical_meaning (audit ontology queries) = audits ontology queries
 canonical_meaning (drill seed count) = drills seed count
 
 -- the answer is this meaning, or want of memory

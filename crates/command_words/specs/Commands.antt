@@ -10,7 +10,7 @@ use Rattle.clap.specs.Simple.{on_top}
 use Rattle.clap.specs.declared.builder.action.ArgAction.TheVariants.{SetTrue}
 use Rattle.command_words.specs.declared.names.CommandName.{CommandName}
 use Rattle.command_words.specs.declared.names.CommandName.TheVariants.{Watch, Rewrite, Contain}
-use Rattle.command_words.specs.declared.names.CommandName.TheVariants.{Drill}
+use Rattle.command_words.specs.declared.names.CommandName.TheVariants.{Audit, Drill}
 
 -- the words as texts
 abbrev pub texts_of : List (String Global) → List Text
@@ -23,7 +23,8 @@ abbrev pub command_named : Text → Option CommandName
 command_named word = if bytes_eq word (codes "watch") then Some Watch
     else (if bytes_eq word (codes "rewrite") then Some Rewrite
     else (if bytes_eq word (codes "contain") then Some Contain
-    else (if bytes_eq word (codes "drill") then Some Drill else None)))
+    else (if bytes_eq word (codes "audit") then Some Audit
+    else (if bytes_eq word (codes "drill") then Some Drill else None))))
 
 -- the command that the first word names
 abbrev pub first_command : List Text → Option CommandName
@@ -72,6 +73,7 @@ app_of_command Watch = with_rule (with_rule (with_rule
     (value_rule (codes "form"))) (value_rule (codes "report"))) (flag_rule (codes "sizes"))
 app_of_command Rewrite = places_app (codes "rewrite") (codes "ontology") (codes "queries")
 app_of_command Contain = places_app (codes "contain") (codes "ontology") (codes "queries")
+app_of_command Audit = places_app (codes "audit") (codes "ontology") (codes "queries")
 app_of_command Drill = places_app (codes "drill") (codes "seed") (codes "count")
 
 -- ---- clap's exact function of a simple command, which reads the words after the first

@@ -32,11 +32,13 @@ pub record Watching : Type 0 where
   pub sizes : Bool
 
 -- a watch, a rewriting of the queries by the ontology of these files, a test of the containment of
--- these queries under this ontology, or a drill of this seed and so many snapshots
+-- these queries under this ontology, an audit of models by these files, or a drill of this seed and
+-- so many snapshots
 pub data Meaning : Type 0 where
   watch : Watching → Meaning
   rewrite : Text → Text → Meaning
   contain : Text → Text → Meaning
+  audit : Text → Text → Meaning
   drill : ℕ → ℕ → Meaning
 
 -- the seed of a drill is at most 2,147,483,647, and it has at most 100,000 snapshots
@@ -44,6 +46,7 @@ abbrev pub IsWithinLimits : Meaning → Type 0
 IsWithinLimits (watch w) = Unit {0}
 IsWithinLimits (rewrite ontology queries) = Unit {0}
 IsWithinLimits (contain ontology queries) = Unit {0}
+IsWithinLimits (audit ontology queries) = Unit {0}
 IsWithinLimits (drill seed count) = (seed ≤ 2147483647) × (count ≤ 100000)
 
 -- ---- what each value means
@@ -113,6 +116,11 @@ abbrev pub contain_in : List Row → Option Meaning
 contain_in rows = option_and_then (λ ontology. option_map (contain ontology)
     (file_in (codes "queries") rows)) (file_in (codes "ontology") rows)
 
+-- what the arguments of an audit mean
+abbrev pub audit_in : List Row → Option Meaning
+audit_in rows = option_and_then (λ ontology. option_map (audit ontology)
+    (file_in (codes "queries") rows)) (file_in (codes "ontology") rows)
+
 -- what the arguments of a drill mean
 abbrev pub drill_in : List Row → Option Meaning
 drill_in rows = option_and_then (λ seed. option_map (drill seed)
@@ -123,6 +131,7 @@ unfoldable pub meaning_in : CommandName → List Row → Option Meaning
 meaning_in command.Watch rows = option_map watch (watch_in rows)
 meaning_in command.Rewrite rows = rewrite_in rows
 meaning_in command.Contain rows = contain_in rows
+meaning_in command.Audit rows = audit_in rows
 meaning_in command.Drill rows = drill_in rows
 
 -- what the words mean by the arguments of a command
@@ -151,6 +160,7 @@ abbrev pub meaning_of : Request → Meaning
 meaning_of (request.Watch w) = watch (watching_of w)
 meaning_of (request.Rewrite ontology queries) = rewrite ontology.now queries.now
 meaning_of (request.Contain ontology queries) = contain ontology.now queries.now
+meaning_of (request.Audit ontology queries) = audit ontology.now queries.now
 meaning_of (request.Drill seed count) = drill seed count
 
 -- a refusal comes only where the words mean nothing, or for want of memory

@@ -80,6 +80,7 @@ fn command<'a>(alloc: Global, name: CommandName) -> Result<Command<'a>, AllocErr
         CommandName::Watch => watch_command(alloc),
         CommandName::Rewrite => two_places(alloc, "rewrite", "ontology", "queries"),
         CommandName::Contain => two_places(alloc, "contain", "ontology", "queries"),
+        CommandName::Audit => two_places(alloc, "audit", "ontology", "queries"),
         CommandName::Drill => two_places(alloc, "drill", "seed", "count"),
     }
 }

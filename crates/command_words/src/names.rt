@@ -11,6 +11,7 @@ pub enum CommandName {
     Watch,
     Rewrite,
     Contain,
+    Audit,
     Drill,
 }
 
@@ -22,6 +23,7 @@ fn command_named(word: &str) -> Option<CommandName>
         "watch" => Some(CommandName::Watch),
         "rewrite" => Some(CommandName::Rewrite),
         "contain" => Some(CommandName::Contain),
+        "audit" => Some(CommandName::Audit),
         "drill" => Some(CommandName::Drill),
         _ => None,
     }

@@ -31,6 +31,8 @@ pub enum Request<'a> {
     /// Tests which queries of one file are contained in which others, under the ontology of
     /// another.
     Contain { ontology: &'a str, queries: &'a str },
+    /// Audits models of the ontology of one file, and answers the queries of another in them.
+    Audit { ontology: &'a str, queries: &'a str },
     /// Watches a made stream: the seed is at most 2,147,483,647, the count of snapshots at most
     /// 100,000.
     Drill { seed: u32, count: u32 },

@@ -56,9 +56,14 @@ fn accepts_rewritings_and_drills(rt: HostRuntime) -> Result<(), Fail> {
         ontology: "O",
         queries: "Q",
     };
+    let audit = Request::Audit {
+        ontology: "O",
+        queries: "Q",
+    };
     for (line, request) in [
         ("rewrite O Q", rewriting),
         ("contain O Q", containment),
+        ("audit O Q", audit),
         ("drill 0 0", Request::Drill { seed: 0, count: 0 }),
         ("drill 7 3", Request::Drill { seed: 7, count: 3 }),
         (
@@ -113,6 +118,7 @@ fn refuses_other_words(rt: HostRuntime) -> Result<(), Fail> {
         "rewrite O Q --form json",
         "contain O",
         "contain O Q --sizes",
+        "audit O",
         "drill 1",
         "drill 1 1 1",
         "drill 1 1 --sizes",

@@ -2,8 +2,9 @@
 
 ghost use Rattle.std.specs.Prelude.{◌≡◌, ◌≤◌, MatchOption, codes, option_map, unwrap_or};
 ghost use Rattle.clap.specs.Words.{first_of, found_of, rows_of};
-ghost use Rattle.command_words.specs.Meanings.{IsWithinLimits, contain_in, drill_in, file_in};
-ghost use Rattle.command_words.specs.Meanings.{file_of, is_file, meaning_in, meaning_of, number_in};
+ghost use Rattle.command_words.specs.Meanings.{IsWithinLimits, audit_in, contain_in};
+ghost use Rattle.command_words.specs.Meanings.{drill_in, file_in, file_of, is_file, meaning_in};
+ghost use Rattle.command_words.specs.Meanings.{meaning_of, number_in};
 ghost use Rattle.command_words.specs.Meanings.{report_form_in, report_form_of, rewrite_in};
 ghost use Rattle.command_words.specs.Meanings.{sizes_in, stream_form_in, stream_form_of, watch_in};
 ghost use Rattle.command_words.specs.Meanings.{watching_of};
@@ -157,6 +158,17 @@ fn containment<'a>(matches: &ArgMatches<'a>) -> Option<Request<'a>>
     Some(Request::Contain { ontology, queries })
 }
 
+/// What the arguments of an audit mean.
+fn audit<'a>(matches: &ArgMatches<'a>) -> Option<Request<'a>>
+    ensures meaning { option_map meaning_of result ≡ audit_in (rows_of (found_of matches.now)) }
+    ensures limits { MatchOption result (Unit {0})
+        (λ request. IsWithinLimits (meaning_of request)) }
+{
+    let ontology = file(matches, "ontology")?;
+    let queries = file(matches, "queries")?;
+    Some(Request::Audit { ontology, queries })
+}
+
 /// What the arguments of a drill mean.
 fn drill<'a>(matches: &ArgMatches<'a>) -> Option<Request<'a>>
     ensures meaning { option_map meaning_of result ≡ drill_in (rows_of (found_of matches.now)) }
@@ -183,6 +195,7 @@ pub fn request<'a>(name: CommandName, matches: &ArgMatches<'a>) -> Option<Reques
         },
         CommandName::Rewrite => rewriting(matches),
         CommandName::Contain => containment(matches),
+        CommandName::Audit => audit(matches),
         CommandName::Drill => drill(matches),
     }
 }
