@@ -12,6 +12,8 @@ mod reading;
 mod refusals;
 mod tables;
 mod terms;
+#[cfg(test)]
+mod tests;
 mod tokens;
 mod words;
 

@@ -20,18 +20,19 @@ use crate::items::Item;
 use crate::refusals::first_refused;
 use crate::tables::Table;
 use crate::tokens::{Token, scan, text_of};
-use dl_syntax::{Name, Ontology};
+use dl_syntax::Ontology;
+use short_names::ShortName;
 use std::alloc::Global;
 
 /// What is at fault in a document.
-#[derive(PartialEq, Eq, Debug, Drop)]
+#[derive(Clone, Copy, Debug, PartialEq, Eq)]
 pub enum OwlKind {
     /// The text has more than 4,194,304 bytes.
     TooLong,
     /// The token may not stand there.
     BadOwl,
     /// The token, cut to 64 bytes, is outside of the profile.
-    Unsupported(Name),
+    Unsupported(ShortName),
     /// The prefix or the entity isn't declared.
     Unknown,
     /// The name is none that an ontology may have.
@@ -45,7 +46,7 @@ pub enum OwlKind {
 }
 
 /// Why a document gives no ontology.
-#[derive(PartialEq, Eq, Debug, Drop)]
+#[derive(Clone, Copy, Debug, PartialEq, Eq)]
 pub enum OwlFault {
     /// The first fault, with its line, counted from 1; a text that is too long is at fault at line
     /// 0.
@@ -56,9 +57,6 @@ pub enum OwlFault {
 
 /// The most bytes of a text.
 const BYTE_LIMIT: usize = 4_194_304;
-
-/// The most bytes of a token that is named.
-const TEXT_LIMIT: usize = 64;
 
 /// How many lines end in the text.
 fn line_ends(text: &[u8]) -> usize
@@ -91,7 +89,7 @@ fn last_line(text: &[u8]) -> u64
 }
 
 fn kind_of(flaw: Flaw) -> OwlKind
-    ensures { result ≡ reading.kind_of flaw }
+    ensures { reading.told result ≡ reading.fault_of flaw }
 {
     match flaw {
         Flaw::Unknown => OwlKind::Unknown,
@@ -102,29 +100,14 @@ fn kind_of(flaw: Flaw) -> OwlKind
     }
 }
 
-/// The first bytes of a text.
-fn cut<'a>(text: &'a [u8], most: usize) -> &'a [u8]
-    ensures { result.now ≡ take most text.now }
-{
-    if text.len() < most {
-        text
-    } else {
-        &text[..most]
-    }
-}
-
 /// The fault of a token that isn't taken.
-fn unsupported(alloc: Global, text: &[u8], token: &Token) -> OwlFault
+fn unsupported(text: &[u8], token: &Token) -> OwlFault
     ensures { reading.Faults result (reading.line_of text.now token.now.start)
         (take 64 (lexeme text.now token.now).text) }
 {
-    let word = text_of(text, token);
-    match Name::new(alloc, cut(word, TEXT_LIMIT)) {
-        Ok(name) => OwlFault::Bad {
-            line: line_of(text, token.start),
-            kind: OwlKind::Unsupported(name),
-        },
-        Err(_) => OwlFault::Memory,
+    OwlFault::Bad {
+        line: line_of(text, token.start),
+        kind: OwlKind::Unsupported(ShortName::new(text_of(text, token))),
     }
 }
 
@@ -209,7 +192,7 @@ fn taken_says(
         (first_of in_item (map (item_seen text.now) items.now))) }
 {
     match first_refused(items) {
-        Some(token) => Err(unsupported(alloc, text, &token)),
+        Some(token) => Err(unsupported(text, &token)),
         None => match items_say(alloc, text, known, items) {
             Ok(ontology) => Ok(ontology),
             Err(fault) => Err(flawed(text, fault)),

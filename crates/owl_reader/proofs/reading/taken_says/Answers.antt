@@ -2,7 +2,6 @@ use Rattle.std.proofs.Common.{◌≡◌, ℕ, List, Option, None, Result, Ok, Er
 use Rattle.dl_syntax.specs.Ontology.{Declared}
 use Rattle.owl_reader.specs.declared.entities.SayFault.{SayFault}
 use Rattle.owl_reader.specs.declared.entities.SayFault.TheVariants as say
-use Rattle.owl_reader.specs.declared.reading.OwlKind.{OwlKind}
 use Rattle.owl_reader.specs.declared.reading.OwlFault.{OwlFault}
 use Rattle.owl_reader.specs.declared.reading.OwlFault.TheVariants as fault
 use Rattle.owl_reader.specs.Tokens.{Lexeme}
@@ -10,8 +9,8 @@ use Rattle.owl_reader.specs.Documents.{Document}
 use Rattle.owl_reader.specs.ItemViews.{item_seen}
 use Rattle.owl_reader.specs.Statements.{Said}
 use Rattle.owl_reader.specs.StatementViews.{Says}
-use Rattle.owl_reader.specs.Reading.{FaultAt, line_of, kind_of, taken_says, with_lines, IsFlawed}
-use Rattle.owl_reader.specs.Reading.{Tells}
+use Rattle.owl_reader.specs.Reading.{Fault, FaultAt, fault_of, line_of, taken_says, with_lines}
+use Rattle.owl_reader.specs.Reading.{IsFlawed, Tells}
 use Rattle.owl_reader.proofs.reading.taken_says.Goals as goal
 
 lined : (text : List ℕ) (said : Said Declared) (whole : Result Declared FaultAt) (f : SayFault)
@@ -19,7 +18,7 @@ lined : (text : List ℕ) (said : Said Declared) (whole : Result Declared FaultA
     → whole ≡ with_lines text said → Tells (Err out) whole
 lined text said whole (say.Flaw place flaw) (fault.Bad line what) is flawed before =
     before ∙ ap (with_lines text) is ∙ ap (λ (n : ℕ). let r : Result Declared FaultAt =
-    Err (n, kind_of flaw) in r) (sym flawed.0) ∙ ap (λ (k : OwlKind).
+    Err (n, fault_of flaw) in r) (sym flawed.0) ∙ ap (λ (k : Fault).
     let r : Result Declared FaultAt = Err (line, k) in r) (sym flawed.1)
 lined text said whole (say.Flaw place flaw) fault.Memory is flawed before = tt
 lined text said whole say.Memory (fault.Bad line what) is flawed before = elim flawed [ ]
