@@ -1,10 +1,12 @@
 -- Canonical words are accepted, with their meaning.
 use Rattle.std.proofs.Common.{◌≡◌, ◌∙◌, Bool, true, false, List, [], ◌∷◌, ◌++◌, Some, None, refl}
-use Rattle.std.proofs.Common.{ap, sym, codes, map, fold, append-nil}
+use Rattle.std.proofs.Common.{ap, sym, codes, map, fold, append-nil, append_assoc, ◌||◌}
 use Rattle.std.specs.Prelude.{if◌then◌else◌}
+use Rattle.std.specs.Str.{bytes_eq}
+use Rattle.std.proofs.lemmas.List.Folds.{list_any-append}
 use Rattle.clap.specs.Simple.{Shape, argument_words, built, names_of}
 use Rattle.clap.specs.Walk.{Held, Names, Row, Text, Walk, finished, has_row, more_values}
-use Rattle.clap.specs.Walk.{nothing_held, reading_by, rows_after, walk, walk_from, walked}
+use Rattle.clap.specs.Walk.{nothing_held, reacted, reading_by, rows_after, walk, walk_from, walked}
 use Rattle.clap.specs.Walk.{with_default}
 use Rattle.clap.specs.Faults.{check_fault, level_fault, settle_fault, walk_fault}
 use Rattle.clap.specs.declared.parser.matches.ValueSource.TheVariants.{DefaultValue}
@@ -15,13 +17,15 @@ use Rattle.command_words.specs.declared.names.CommandName.TheVariants.{Watch, Re
 use Rattle.command_words.specs.declared.names.CommandName.TheVariants.{Audit, Drill}
 use Rattle.command_words.specs.Commands.{app_of_command, faults_in, rows_in}
 use Rattle.command_words.specs.Meanings.{is_file}
-use Rattle.command_words.specs.Canonical.{AreOnce, Choice, option_words}
-use Rattle.command_words.proofs.Walking.{held_after, held_places, no_names, rules, shape, shape_is}
-use Rattle.command_words.proofs.Walking.{sizes_built, stands, walk_options, walk_words}
+use Rattle.command_words.specs.Canonical.{AreOnce, Choice, option_word, option_words, owl}
+use Rattle.command_words.specs.Canonical.{owl_choices}
+use Rattle.command_words.proofs.Walking.{Flag, flag_built, flag_name, held_after, held_places}
+use Rattle.command_words.proofs.Walking.{no_names, of_owl, of_sizes, rules, shape, shape_is}
+use Rattle.command_words.proofs.Walking.{stands, walk_options, walk_words}
 use Rattle.command_words.proofs.RowsFound.{at_absent, fresh_at_first, place_rows, row_of_choice}
 use Rattle.command_words.proofs.RowsFound.{rows_after_choices, rows_at, rows_of_places}
 use Rattle.command_words.proofs.Passes.{check_passes, defaults_pass, finished_is, nothing_more}
-use Rattle.command_words.proofs.Passes.{options_pass, places_settle, settle_after, with_flag}
+use Rattle.command_words.proofs.Passes.{options_pass, places_settle, settle_after, with_flags}
 use Rattle.command_words.proofs.Passes.{words_pass}
 
 arguments_are : (c : CommandName) (word : Text) (words : List Text)
@@ -87,55 +91,170 @@ rows_are c word words rows takes =
     ∙ ap (λ (w : Walk). finished (rules c) w.held) takes.goes
     ∙ takes.found
 
--- ---- two words alone
+-- ---- the flags that aren't there
 
-two_found : (c : CommandName) (a b : Text) (rows : List Row) → with_flag c (place_rows c a b) ≡ rows
-    → fold with_default (rows_at c (held_places c a b)) (rules c) ≡ rows
-two_found c a b rows flagged =
-    ap (λ rs. fold with_default rs (rules c)) (rows_of_places c a b) ∙ finished_is c
-    (place_rows c a b) ∙ flagged
+or_false : (b : Bool) → (b || false) ≡ b
+or_false true = refl
+or_false false = refl
 
-two_checked : (c : CommandName) (a b : Text) → check_fault (shape c) (place_rows c a b) false ≡ []
-two_checked c a b = check_passes c a b []
-
-pub two_are_taken : (c : CommandName) (a b : Text) → is_file a ≡ true → is_file b ≡ true
-    → with_flag c (place_rows c a b) ≡ place_rows c a b → Takes c (a ∷ b ∷ []) (place_rows c a b)
-two_are_taken c a b first second flagged = record {
-  end = held_places c a b;
-  passes = words_pass c a b [] first second (nothing_more c (stands (held_places c a b)));
-  goes = walk_words c a b [] first second;
-  settles = places_settle c a b;
-  found = two_found c a b (place_rows c a b) flagged;
-  checked = two_checked c a b;
-}
-
--- ---- two words and options
-
-unfoldable pub default_row : Row
-default_row = record {
-  id = codes "sizes";
+-- the row of a flag that isn't there
+unfoldable pub default_row : Flag → Row
+default_row f = record {
+  id = flag_name f;
   values = codes "false" ∷ [];
   count = None;
   source =
       Some DefaultValue;
-  reading = reading_by sizes_built;
+  reading = reading_by (flag_built (flag_name f));
 }
 
--- what the default adds
-unfoldable pub added : Bool → List Row
-added b = if b then [] else default_row ∷ []
+-- what the default adds, where the flag is there or isn't
+unfoldable pub added : Flag → Bool → List Row
+added f b = if b then [] else default_row f ∷ []
 
-with_sizes : (rows : List Row) (b : Bool) → has_row (codes "sizes") rows ≡ b
-    → with_default rows sizes_built ≡ rows ++ added b
+with_flag : (f : Flag) (rows : List Row) (b : Bool) → has_row (flag_name f) rows ≡ b
+    → with_default rows (flag_built (flag_name f)) ≡ rows ++ added f b
 unfolding default_row added
-with_sizes rows true there = rw there (sym (append-nil rows))
-with_sizes rows false absent =
-    rw absent (at_absent (codes "sizes") (more_values DefaultValue (codes "false" ∷ []))
-    (default_row ∷ []) rows absent)
+with_flag f rows true there = rw there (sym (append-nil rows))
+with_flag f rows false absent =
+    rw absent (at_absent (flag_name f) (more_values DefaultValue (codes "false" ∷ []))
+    (default_row f ∷ []) rows absent)
 
--- the rows that the options give, with what the default adds
+-- ---- two words alone
+
+two_found : (c : CommandName) (a b : Text) (tail : List Row)
+    → with_flags c (place_rows c a b) ≡ place_rows c a b ++ tail
+    → fold with_default (rows_at c (held_places c a b)) (rules c) ≡ place_rows c a b ++ tail
+two_found c a b tail flagged =
+    ap (λ rs. fold with_default rs (rules c)) (rows_of_places c a b) ∙ finished_is c
+    (place_rows c a b) ∙ flagged
+
+two_are_taken : (c : CommandName) (a b : Text) (tail : List Row) → is_file a ≡ true
+    → is_file b ≡ true → with_flags c (place_rows c a b) ≡ place_rows c a b ++ tail
+    → Takes c (a ∷ b ∷ []) (place_rows c a b ++ tail)
+two_are_taken c a b tail first second flagged = record {
+  end = held_places c a b;
+  passes = words_pass c a b [] first second (nothing_more c (stands (held_places c a b)));
+  goes = walk_words c a b [] first second;
+  settles = places_settle c a b;
+  found = two_found c a b tail flagged;
+  checked = check_passes c a b tail;
+}
+
+pub numbers_are_taken : (a b : Text) → is_file a ≡ true → is_file b ≡ true
+    → Takes Drill (a ∷ b ∷ []) (place_rows Drill a b)
+numbers_are_taken a b first second = two_are_taken Drill a b [] first second refl
+
+-- ---- two files, and whether the ontology is an OWL 2 document
+
+-- the commands whose only option is the flag
+pub data IsPlain : CommandName → Type 0 where
+  rewrites : IsPlain Rewrite
+  contains : IsPlain Contain
+  audits : IsPlain Audit
+
+held_flag : CommandName → Text → Text → Held
+held_flag c a b = reacted (rules c) (flag_built (codes "owl")) [] (held_places c a b)
+
+flag_passes : (c : CommandName) (a b : Text) → IsPlain c
+    → walk_fault (shape c) [] (stands (held_places c a b)) (option_word (codes "owl") ∷ []) ≡ []
+unfolding rules walk_fault clap_on_literals
+flag_passes Rewrite a b rewrites = refl
+flag_passes Contain a b contains = refl
+flag_passes Audit a b audits = refl
+flag_passes Watch a b plain = elim plain [ ]
+flag_passes Drill a b plain = elim plain [ ]
+
+flag_goes : (c : CommandName) (a b : Text) → IsPlain c
+    → fold (walked (rules c) []) (stands (held_places c a b)) (option_word (codes "owl") ∷ [])
+    ≡ stands (held_flag c a b)
+unfolding rules held_flag walked clap_on_literals
+flag_goes Rewrite a b rewrites = refl
+flag_goes Contain a b contains = refl
+flag_goes Audit a b audits = refl
+flag_goes Watch a b plain = elim plain [ ]
+flag_goes Drill a b plain = elim plain [ ]
+
+flag_settles : (c : CommandName) (a b : Text) → IsPlain c
+    → settle_fault (rules c) false (held_flag c a b) ≡ []
+unfolding rules held_flag clap_on_literals
+flag_settles Rewrite a b rewrites = refl
+flag_settles Contain a b contains = refl
+flag_settles Audit a b audits = refl
+flag_settles Watch a b plain = elim plain [ ]
+flag_settles Drill a b plain = elim plain [ ]
+
+flag_found : (c : CommandName) (a b : Text) → IsPlain c
+    → fold with_default (rows_at c (held_flag c a b)) (rules c)
+    ≡ place_rows c a b ++ row_of_choice owl ∷ []
+unfolding rules held_flag clap_on_literals
+flag_found Rewrite a b rewrites = refl
+flag_found Contain a b contains = refl
+flag_found Audit a b audits = refl
+flag_found Watch a b plain = elim plain [ ]
+flag_found Drill a b plain = elim plain [ ]
+
+defaults_found : (c : CommandName) (a b : Text) → IsPlain c
+    → with_flags c (place_rows c a b) ≡ place_rows c a b ++ default_row of_owl ∷ []
+unfolding default_row
+defaults_found Rewrite a b rewrites = refl
+defaults_found Contain a b contains = refl
+defaults_found Audit a b audits = refl
+defaults_found Watch a b plain = elim plain [ ]
+defaults_found Drill a b plain = elim plain [ ]
+
+-- the row of the flag, there or not
+abbrev pub owl_rows : Bool → List Row
+owl_rows is_owl = if is_owl then row_of_choice owl ∷ [] else default_row of_owl ∷ []
+
+pub files_are_taken : (c : CommandName) (a b : Text) (is_owl : Bool) → IsPlain c
+    → is_file a ≡ true → is_file b ≡ true
+    → Takes c (a ∷ b ∷ option_words (owl_choices is_owl)) (place_rows c a b ++ owl_rows is_owl)
+files_are_taken c a b false plain first second =
+    two_are_taken c a b (default_row of_owl ∷ []) first second (defaults_found c a b plain)
+files_are_taken c a b true plain first second = record {
+  end = held_flag c a b;
+  passes = words_pass c a b (option_word (codes "owl") ∷ []) first second (flag_passes c a b plain);
+  goes = walk_words c a b (option_word (codes "owl") ∷ []) first second ∙ flag_goes c a b plain;
+  settles = flag_settles c a b plain;
+  found = flag_found c a b plain;
+  checked = check_passes c a b (row_of_choice owl ∷ []);
+}
+
+-- ---- two files and the options of a watch
+
+-- what the defaults of the flags add to these rows
+unfoldable pub flags_added : List Row → List Row
+flags_added rows =
+    added of_owl (has_row (codes "owl") rows) ++ added of_sizes (has_row (codes "sizes") rows)
+
+no_sizes_added : (rows : List Row) (b : Bool)
+    → has_row (codes "sizes") (rows ++ added of_owl b) ≡ has_row (codes "sizes") rows
+unfolding added default_row
+no_sizes_added rows true = ap (has_row (codes "sizes")) (append-nil rows)
+no_sizes_added rows false =
+    list_any-append (λ (r : Row). bytes_eq r.id (codes "sizes")) rows (default_row of_owl ∷ [])
+    ∙ or_false (has_row (codes "sizes") rows)
+
+with_both : (rows : List Row)
+    → with_default (with_default rows (flag_built (codes "owl"))) (flag_built (codes "sizes"))
+    ≡ rows ++ flags_added rows
+unfolding flags_added
+with_both rows =
+    let is_owl : Bool = has_row (codes "owl") rows in
+    let is_sizes : Bool = has_row (codes "sizes") rows in
+    ap (λ rs. with_default rs (flag_built (codes "sizes"))) (with_flag of_owl rows is_owl refl)
+    ∙ with_flag of_sizes (rows ++ added of_owl is_owl) is_sizes (no_sizes_added rows is_owl)
+    ∙ append_assoc rows (added of_owl is_owl) (added of_sizes is_sizes)
+
+-- the rows that the options give, with what the defaults add
 unfoldable pub option_rows : List Choice → List Row
-option_rows cs = map row_of_choice cs ++ added (has_row (codes "sizes") (map row_of_choice cs))
+option_rows cs = map row_of_choice cs ++ flags_added (map row_of_choice cs)
+
+same_added : (a b : Text) (rows : List Row)
+    → flags_added (place_rows Watch a b ++ rows) ≡ flags_added rows
+unfolding flags_added
+same_added a b rows = refl
 
 ends_held : Text → Text → List Choice → Held
 ends_held a b cs = held_after cs (held_places Watch a b)
@@ -149,8 +268,11 @@ rows_at_end a b cs once =
     (rows_after_choices cs (held_places Watch a b) once (fresh_at_first cs a b)
     ∙ ap (λ rows. rows ++ map row_of_choice cs) (rows_of_places Watch a b))
     ∙ finished_is Watch (place_rows Watch a b ++ map row_of_choice cs)
-    ∙ with_sizes (place_rows Watch a b ++ map row_of_choice cs)
-    (has_row (codes "sizes") (map row_of_choice cs)) refl
+    ∙ with_both (place_rows Watch a b ++ map row_of_choice cs)
+    ∙ ap (λ rows. (place_rows Watch a b ++ map row_of_choice cs) ++ rows)
+    (same_added a b (map row_of_choice cs))
+    ∙ append_assoc (place_rows Watch a b) (map row_of_choice cs)
+    (flags_added (map row_of_choice cs))
 
 pub options_are_taken : (a b : Text) (cs : List Choice) → is_file a ≡ true → is_file b ≡ true
     → AreOnce cs

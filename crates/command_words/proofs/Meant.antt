@@ -17,18 +17,22 @@ use Rattle.command_words.specs.declared.request.WordsFault.TheVariants.{Usage, M
 use Rattle.command_words.specs.Commands.{command_of, has_barred_word, is_barred_word}
 use Rattle.command_words.specs.Meanings.{Answers, Meaning, file_in, is_file, meaning_in}
 use Rattle.command_words.specs.Meanings.{meaning_of_words, number_in, report_form_in}
-use Rattle.command_words.specs.Meanings.{report_form_of, sizes_in, stream_form_in, stream_form_of}
+use Rattle.command_words.specs.Meanings.{flag_in, report_form_of, stream_form_in, stream_form_of}
 use Rattle.command_words.specs.Canonical as said
 use Rattle.command_words.specs.Canonical.{AreOnce, Canonical, Choice, IsCanonical, IsMeant}
 use Rattle.command_words.specs.Canonical.{canonical_meaning, canonical_words, form, form_said}
 use Rattle.command_words.specs.Canonical.{has_name, name_of, option_words, report_as, report_said}
-use Rattle.command_words.specs.Canonical.{report_word, sizes, stream_word}
+use Rattle.command_words.specs.Canonical.{owl, owl_choices, report_word, sizes, stream_word}
 use Rattle.command_words.proofs.Numerals.{decimal_is_file, decimal_says}
-use Rattle.command_words.proofs.Walking.{report_word_is_file, stream_word_is_file}
+use Rattle.command_words.proofs.Walking.{Flag, flag_name, of_owl, of_sizes, report_word_is_file}
+use Rattle.command_words.proofs.Walking.{stream_word_is_file}
 use Rattle.command_words.proofs.RowsFound.{chosen, first_chosen, or_parts, place_rows}
 use Rattle.command_words.proofs.RowsFound.{row_of_choice}
-use Rattle.command_words.proofs.Accepted.{Takes, added, default_row, no_faults, option_rows}
-use Rattle.command_words.proofs.Accepted.{options_are_taken, rows_are, two_are_taken}
+use Rattle.command_words.proofs.Accepted.{IsPlain, Takes, added, audits, contains}
+use Rattle.command_words.proofs.Accepted.{default_row}
+use Rattle.command_words.proofs.Accepted.{files_are_taken, flags_added, no_faults}
+use Rattle.command_words.proofs.Accepted.{numbers_are_taken, option_rows, options_are_taken}
+use Rattle.command_words.proofs.Accepted.{owl_rows, rewrites, rows_are}
 use Rattle.command_words.proofs.MeaningLemmas.{meaning_is, named_is}
 
 -- ---- the command is named
@@ -44,6 +48,7 @@ options_are_fine (form f ∷ cs) =
 options_are_fine (report_as r ∷ cs) =
     rw (file_is_fine (report_word r) (report_word_is_file r)) (options_are_fine cs)
 options_are_fine (sizes ∷ cs) = options_are_fine cs
+options_are_fine (owl ∷ cs) = options_are_fine cs
 
 watch_is_named : (a b : Text) (cs : List Choice) → is_file a ≡ true → is_file b ≡ true
     → command_of (codes "watch" ∷ a ∷ b ∷ option_words cs) ≡ Some Watch
@@ -51,20 +56,35 @@ unfolding command_of
 watch_is_named a b cs first second =
     rw (file_is_fine a first, file_is_fine b second, options_are_fine cs)
 
-rewrite_is_named : (a b : Text) → is_file a ≡ true → is_file b ≡ true
-    → command_of (codes "rewrite" ∷ a ∷ b ∷ []) ≡ Some Rewrite
+rewrite_is_named : (a b : Text) (is_owl : Bool) → is_file a ≡ true → is_file b ≡ true
+    → command_of (codes "rewrite" ∷ a ∷ b ∷ option_words (owl_choices is_owl)) ≡ Some Rewrite
 unfolding command_of
-rewrite_is_named a b first second = rw (file_is_fine a first, file_is_fine b second)
+rewrite_is_named a b is_owl first second =
+    rw (
+      file_is_fine a first,
+      file_is_fine b second,
+      options_are_fine (owl_choices is_owl),
+    )
 
-contain_is_named : (a b : Text) → is_file a ≡ true → is_file b ≡ true
-    → command_of (codes "contain" ∷ a ∷ b ∷ []) ≡ Some Contain
+contain_is_named : (a b : Text) (is_owl : Bool) → is_file a ≡ true → is_file b ≡ true
+    → command_of (codes "contain" ∷ a ∷ b ∷ option_words (owl_choices is_owl)) ≡ Some Contain
 unfolding command_of
-contain_is_named a b first second = rw (file_is_fine a first, file_is_fine b second)
+contain_is_named a b is_owl first second =
+    rw (
+      file_is_fine a first,
+      file_is_fine b second,
+      options_are_fine (owl_choices is_owl),
+    )
 
-audit_is_named : (a b : Text) → is_file a ≡ true → is_file b ≡ true
-    → command_of (codes "audit" ∷ a ∷ b ∷ []) ≡ Some Audit
+audit_is_named : (a b : Text) (is_owl : Bool) → is_file a ≡ true → is_file b ≡ true
+    → command_of (codes "audit" ∷ a ∷ b ∷ option_words (owl_choices is_owl)) ≡ Some Audit
 unfolding command_of
-audit_is_named a b first second = rw (file_is_fine a first, file_is_fine b second)
+audit_is_named a b is_owl first second =
+    rw (
+      file_is_fine a first,
+      file_is_fine b second,
+      options_are_fine (owl_choices is_owl),
+    )
 
 drill_is_named : (a b : Text) → is_file a ≡ true → is_file b ≡ true
     → command_of (codes "drill" ∷ a ∷ b ∷ []) ≡ Some Drill
@@ -82,11 +102,11 @@ taken_mean c word words rows meaning named takes means =
 
 -- ---- the options of a watch
 
-none_added : (id : Text) → bytes_eq (codes "sizes") id ≡ false → (b : Bool)
-    → first_of id (added b) ≡ None
+none_added : (f : Flag) (id : Text) → bytes_eq (flag_name f) id ≡ false → (b : Bool)
+    → first_of id (added f b) ≡ None
 unfolding added default_row
-none_added id other true = refl
-none_added id other false = rw other
+none_added f id other true = refl
+none_added f id other false = rw other
 
 no_row_then : (id : Text) (cs : List Choice) (tail : List Row)
     → has_row id (map row_of_choice cs) ≡ false
@@ -97,14 +117,45 @@ no_row_then id (c ∷ cs) tail absent =
     let later = no_row_then id cs tail parts.1 in
     (rw parts.0 later.0, rw parts.0 later.1)
 
-sizes_value : (cs : List Choice) (b : Bool) → has_row (codes "sizes") (map row_of_choice cs) ≡ b
-    → unwrap_or (first_of (codes "sizes") (map row_of_choice cs ++ added b)) (codes "false")
+owl_value : (cs : List Choice) (b other : Bool) → has_row (codes "owl") (map row_of_choice cs) ≡ b
+    → unwrap_or (first_of (codes "owl") (map row_of_choice cs ++ (added of_owl b
+    ++ added of_sizes other))) (codes "false")
+    ≡ unwrap_or (chosen (codes "owl") cs) (codes "false")
+unfolding added default_row
+owl_value cs true other there =
+    ap (λ o. unwrap_or o (codes "false"))
+    (first_chosen (codes "owl") cs (added of_sizes other) (none_added of_sizes (codes "owl") refl
+    other))
+owl_value cs false other absent =
+    let parts =
+    no_row_then (codes "owl") cs (default_row of_owl ∷ added of_sizes other) absent in
+    rw (parts.1, parts.0)
+
+sizes_value : (cs : List Choice) (other b : Bool)
+    → has_row (codes "sizes") (map row_of_choice cs) ≡ b
+    → unwrap_or (first_of (codes "sizes") (map row_of_choice cs ++ (added of_owl other
+    ++ added of_sizes b))) (codes "false")
     ≡ unwrap_or (chosen (codes "sizes") cs) (codes "false")
 unfolding added default_row
-sizes_value cs true there =
+sizes_value cs true true there =
     ap (λ o. unwrap_or o (codes "false")) (first_chosen (codes "sizes") cs [] refl)
-sizes_value cs false absent =
-    let parts = no_row_then (codes "sizes") cs (default_row ∷ []) absent in rw (parts.1, parts.0)
+sizes_value cs false true there =
+    ap (λ o. unwrap_or o (codes "false"))
+    (first_chosen (codes "sizes") cs (default_row of_owl ∷ []) refl)
+sizes_value cs true false absent =
+    let parts = no_row_then (codes "sizes") cs (default_row of_sizes ∷ []) absent in
+    rw (parts.1, parts.0)
+sizes_value cs false false absent =
+    let parts =
+    no_row_then (codes "sizes") cs (default_row of_owl ∷ default_row of_sizes ∷ []) absent in
+    rw (parts.1, parts.0)
+
+none_of_flags : (id : Text) → bytes_eq (codes "owl") id ≡ false
+    → bytes_eq (codes "sizes") id ≡ false → (one other : Bool)
+    → first_of id (added of_owl one ++ added of_sizes other) ≡ None
+unfolding added default_row
+none_of_flags id no_owl no_sizes true other = none_added of_sizes id no_sizes other
+none_of_flags id no_owl no_sizes false other = rw no_owl (none_added of_sizes id no_sizes other)
 
 form_chosen : (cs : List Choice)
     → stream_form_of (unwrap_or (chosen (codes "form") cs) (codes "text")) ≡ Some (form_said cs)
@@ -113,6 +164,7 @@ form_chosen (form stream.Text ∷ cs) = refl
 form_chosen (form stream.Json ∷ cs) = refl
 form_chosen (report_as r ∷ cs) = form_chosen cs
 form_chosen (sizes ∷ cs) = form_chosen cs
+form_chosen (owl ∷ cs) = form_chosen cs
 
 report_chosen : (cs : List Choice)
     → report_form_of (unwrap_or (chosen (codes "report") cs) (codes "text")) ≡ Some (report_said cs)
@@ -122,6 +174,7 @@ report_chosen (report_as (report.Lines line.Text) ∷ cs) = refl
 report_chosen (report_as report.Objects ∷ cs) = refl
 report_chosen (report_as (report.Lines line.Csv) ∷ cs) = refl
 report_chosen (sizes ∷ cs) = report_chosen cs
+report_chosen (owl ∷ cs) = report_chosen cs
 
 sizes_chosen : (cs : List Choice)
     → bytes_eq (unwrap_or (chosen (codes "sizes") cs) (codes "false")) (codes "true")
@@ -130,31 +183,57 @@ sizes_chosen [] = refl
 sizes_chosen (form f ∷ cs) = sizes_chosen cs
 sizes_chosen (report_as r ∷ cs) = sizes_chosen cs
 sizes_chosen (sizes ∷ cs) = refl
+sizes_chosen (owl ∷ cs) = sizes_chosen cs
+
+owl_chosen : (cs : List Choice)
+    → bytes_eq (unwrap_or (chosen (codes "owl") cs) (codes "false")) (codes "true")
+    ≡ has_name (codes "owl") cs
+owl_chosen [] = refl
+owl_chosen (form f ∷ cs) = owl_chosen cs
+owl_chosen (report_as r ∷ cs) = owl_chosen cs
+owl_chosen (sizes ∷ cs) = owl_chosen cs
+owl_chosen (owl ∷ cs) = refl
+
+-- whether the options have a row of this name
+is_there : Text → List Choice → Bool
+is_there id cs = has_row id (map row_of_choice cs)
 
 form_is : (a b : Text) (cs : List Choice)
     → stream_form_in (place_rows Watch a b ++ option_rows cs) ≡ Some (form_said cs)
-unfolding stream_form_in option_rows
+unfolding stream_form_in option_rows flags_added is_there
 form_is a b cs =
-    let there : Bool = has_row (codes "sizes") (map row_of_choice cs) in
+    let is_owl : Bool = is_there (codes "owl") cs in
+    let is_sizes : Bool = is_there (codes "sizes") cs in
     ap (λ o. stream_form_of (unwrap_or o (codes "text")))
-    (first_chosen (codes "form") cs (added there)
-    (none_added (codes "form") refl there)) ∙ form_chosen cs
+    (first_chosen (codes "form") cs (added of_owl is_owl ++ added of_sizes is_sizes)
+    (none_of_flags (codes "form") refl refl is_owl is_sizes)) ∙ form_chosen cs
 
 report_is : (a b : Text) (cs : List Choice)
     → report_form_in (place_rows Watch a b ++ option_rows cs) ≡ Some (report_said cs)
-unfolding report_form_in option_rows
+unfolding report_form_in option_rows flags_added is_there
 report_is a b cs =
-    let there : Bool = has_row (codes "sizes") (map row_of_choice cs) in
+    let is_owl : Bool = is_there (codes "owl") cs in
+    let is_sizes : Bool = is_there (codes "sizes") cs in
     ap (λ o. report_form_of (unwrap_or o (codes "text")))
-    (first_chosen (codes "report") cs (added there)
-    (none_added (codes "report") refl there)) ∙ report_chosen cs
+    (first_chosen (codes "report") cs (added of_owl is_owl ++ added of_sizes is_sizes)
+    (none_of_flags (codes "report") refl refl is_owl is_sizes)) ∙ report_chosen cs
 
 sizes_are : (a b : Text) (cs : List Choice)
-    → sizes_in (place_rows Watch a b ++ option_rows cs) ≡ has_name (codes "sizes") cs
-unfolding sizes_in option_rows
+    → flag_in (codes "sizes") (place_rows Watch a b ++ option_rows cs)
+    ≡ has_name (codes "sizes") cs
+unfolding flag_in option_rows flags_added is_there
 sizes_are a b cs =
     ap (λ t. bytes_eq t (codes "true"))
-    (sizes_value cs (has_row (codes "sizes") (map row_of_choice cs)) refl) ∙ sizes_chosen cs
+    (sizes_value cs (is_there (codes "owl") cs) (is_there (codes "sizes") cs) refl)
+    ∙ sizes_chosen cs
+
+owl_is : (a b : Text) (cs : List Choice)
+    → flag_in (codes "owl") (place_rows Watch a b ++ option_rows cs) ≡ has_name (codes "owl") cs
+unfolding flag_in option_rows flags_added is_there
+owl_is a b cs =
+    ap (λ t. bytes_eq t (codes "true"))
+    (owl_value cs (is_there (codes "owl") cs) (is_there (codes "sizes") cs) refl)
+    ∙ owl_chosen cs
 
 -- ---- the two places
 
@@ -176,26 +255,56 @@ watch_means a b cs first second =
     rw (
       ontology_is a b (option_rows cs) first,
       queries_is a b (option_rows cs) second,
-      form_is a b
-          cs,
+      owl_is a b cs,
+      form_is a b cs,
       report_is a b cs,
       sizes_are a b cs,
     )
 
-rewrite_means : (a b : Text) → is_file a ≡ true → is_file b ≡ true
-    → meaning_in Rewrite (place_rows Rewrite a b) ≡ Some (canonical_meaning (said.rewrite a b))
-unfolding meaning_in
-rewrite_means a b first second = rw (ontology_is a b [] first, queries_is a b [] second)
+flag_is : (c : CommandName) (a b : Text) (is_owl : Bool) → IsPlain c
+    → flag_in (codes "owl") (place_rows c a b ++ owl_rows is_owl) ≡ is_owl
+unfolding flag_in default_row
+flag_is Rewrite a b true rewrites = refl
+flag_is Rewrite a b false rewrites = refl
+flag_is Contain a b true contains = refl
+flag_is Contain a b false contains = refl
+flag_is Audit a b true audits = refl
+flag_is Audit a b false audits = refl
+flag_is Watch a b is_owl plain = elim plain [ ]
+flag_is Drill a b is_owl plain = elim plain [ ]
 
-contain_means : (a b : Text) → is_file a ≡ true → is_file b ≡ true
-    → meaning_in Contain (place_rows Contain a b) ≡ Some (canonical_meaning (said.contain a b))
+rewrite_means : (a b : Text) (is_owl : Bool) → is_file a ≡ true → is_file b ≡ true
+    → meaning_in Rewrite (place_rows Rewrite a b ++ owl_rows is_owl)
+    ≡ Some (canonical_meaning (said.rewrite a b is_owl))
 unfolding meaning_in
-contain_means a b first second = rw (ontology_is a b [] first, queries_is a b [] second)
+rewrite_means a b is_owl first second =
+    rw (
+      ontology_is a b (owl_rows is_owl) first,
+      queries_is a b (owl_rows is_owl) second,
+      flag_is Rewrite a b is_owl rewrites,
+    )
 
-audit_means : (a b : Text) → is_file a ≡ true → is_file b ≡ true
-    → meaning_in Audit (place_rows Audit a b) ≡ Some (canonical_meaning (said.audit a b))
+contain_means : (a b : Text) (is_owl : Bool) → is_file a ≡ true → is_file b ≡ true
+    → meaning_in Contain (place_rows Contain a b ++ owl_rows is_owl)
+    ≡ Some (canonical_meaning (said.contain a b is_owl))
 unfolding meaning_in
-audit_means a b first second = rw (ontology_is a b [] first, queries_is a b [] second)
+contain_means a b is_owl first second =
+    rw (
+      ontology_is a b (owl_rows is_owl) first,
+      queries_is a b (owl_rows is_owl) second,
+      flag_is Contain a b is_owl contains,
+    )
+
+audit_means : (a b : Text) (is_owl : Bool) → is_file a ≡ true → is_file b ≡ true
+    → meaning_in Audit (place_rows Audit a b ++ owl_rows is_owl)
+    ≡ Some (canonical_meaning (said.audit a b is_owl))
+unfolding meaning_in
+audit_means a b is_owl first second =
+    rw (
+      ontology_is a b (owl_rows is_owl) first,
+      queries_is a b (owl_rows is_owl) second,
+      flag_is Audit a b is_owl audits,
+    )
 
 seed_is : (a b : Text) (n : ℕ) → n ≤ 2147483647 → a ≡ decimal n
     → number_in 2147483647 (codes "seed") (place_rows Drill a b) ≡ Some n
@@ -226,21 +335,27 @@ canonical_means (said.watch a b cs) good =
     taken_mean Watch (codes "watch") (a ∷ b ∷ option_words cs) _ _
     (watch_is_named a b cs good.0 good.1) (options_are_taken a b cs good.0 good.1 good.2)
     (watch_means a b cs good.0 good.1)
-canonical_means (said.rewrite a b) good =
-    taken_mean Rewrite (codes "rewrite") (a ∷ b ∷ []) _ _ (rewrite_is_named a b good.0 good.1)
-    (two_are_taken Rewrite a b good.0 good.1 refl) (rewrite_means a b good.0 good.1)
-canonical_means (said.contain a b) good =
-    taken_mean Contain (codes "contain") (a ∷ b ∷ []) _ _ (contain_is_named a b good.0 good.1)
-    (two_are_taken Contain a b good.0 good.1 refl) (contain_means a b good.0 good.1)
-canonical_means (said.audit a b) good =
-    taken_mean Audit (codes "audit") (a ∷ b ∷ []) _ _ (audit_is_named a b good.0 good.1)
-    (two_are_taken Audit a b good.0 good.1 refl) (audit_means a b good.0 good.1)
+canonical_means (said.rewrite a b is_owl) good =
+    taken_mean Rewrite (codes "rewrite") (a ∷ b ∷ option_words (owl_choices is_owl)) _ _
+    (rewrite_is_named a b is_owl good.0 good.1)
+    (files_are_taken Rewrite a b is_owl rewrites good.0 good.1)
+    (rewrite_means a b is_owl good.0 good.1)
+canonical_means (said.contain a b is_owl) good =
+    taken_mean Contain (codes "contain") (a ∷ b ∷ option_words (owl_choices is_owl)) _ _
+    (contain_is_named a b is_owl good.0 good.1)
+    (files_are_taken Contain a b is_owl contains good.0 good.1)
+    (contain_means a b is_owl good.0 good.1)
+canonical_means (said.audit a b is_owl) good =
+    taken_mean Audit (codes "audit") (a ∷ b ∷ option_words (owl_choices is_owl)) _ _
+    (audit_is_named a b is_owl good.0 good.1)
+    (files_are_taken Audit a b is_owl audits good.0 good.1)
+    (audit_means a b is_owl good.0 good.1)
 canonical_means (said.drill seed count) good =
     let first = decimal_is_file seed (omega (arith, good.0)) in
     let second = decimal_is_file count (omega (arith, good.1)) in
     taken_mean Drill (codes "drill") (decimal seed ∷ decimal count ∷ []) _ _
     (drill_is_named (decimal seed) (decimal count) first second)
-    (two_are_taken Drill (decimal seed) (decimal count) first second refl)
+    (numbers_are_taken (decimal seed) (decimal count) first second)
     (drill_means seed count good.0 good.1)
 
 -- an exact answer to canonical words is what they say

@@ -13,11 +13,12 @@ use Rattle.command_words.specs.declared.names.CommandName.TheVariants.{Watch, Re
 use Rattle.command_words.specs.declared.names.CommandName.TheVariants.{Audit, Drill}
 use Rattle.command_words.specs.Meanings.{is_file}
 use Rattle.command_words.specs.Canonical.{AreOnce, Choice, form, name_of, option_word, option_words}
-use Rattle.command_words.specs.Canonical.{report_as, report_word, sizes, stream_word}
+use Rattle.command_words.specs.Canonical.{owl, report_as, report_word, sizes, stream_word}
 use Rattle.command_words.proofs.Walking.{Valued, by_id, by_long, file_is_plain, first_step}
-use Rattle.command_words.proofs.Walking.{held_after, held_places, held_value, held_with, name_step}
-use Rattle.command_words.proofs.Walking.{of_form, of_report, option_reads, report_word_is_file}
-use Rattle.command_words.proofs.Walking.{rules, second_step, shape, sizes_built, sizes_by_long}
+use Rattle.command_words.proofs.Walking.{flag_built, flag_by_long, held_after, held_places}
+use Rattle.command_words.proofs.Walking.{held_value, held_with, name_step, of_form, of_owl}
+use Rattle.command_words.proofs.Walking.{of_report, of_sizes, option_reads, owl_step}
+use Rattle.command_words.proofs.Walking.{report_word_is_file, rules, second_step, shape}
 use Rattle.command_words.proofs.Walking.{sizes_step, stands, stands_first, stream_word_is_file}
 use Rattle.command_words.proofs.Walking.{value_step, valued_name, waits}
 use Rattle.command_words.proofs.RowsFound.{AreFresh, fresh_later, place_rows, rows_at}
@@ -36,7 +37,13 @@ sizes_passes : (h : Held) → settle_fault (rules Watch) false h ≡ []
     → has_row (codes "sizes") (rows_at Watch h) ≡ false
     → turn_fault (shape Watch) [] (stands h) (option_word (codes "sizes")) ≡ []
 unfolding clap_on_literals
-sizes_passes h passes absent = rw sizes_by_long (rw (passes, absent))
+sizes_passes h passes absent = rw (flag_by_long of_sizes) (rw (passes, absent))
+
+owl_passes : (h : Held) → settle_fault (rules Watch) false h ≡ []
+    → has_row (codes "owl") (rows_at Watch h) ≡ false
+    → turn_fault (shape Watch) [] (stands h) (option_word (codes "owl")) ≡ []
+unfolding clap_on_literals
+owl_passes h passes absent = rw (flag_by_long of_owl) (rw (passes, absent))
 
 -- what is pending after an option passes
 value_settles : (n : Valued) (t : Text) (h : Held)
@@ -49,6 +56,7 @@ settle_passes : (c : Choice) (h : Held) → has_row (name_of c) (rows_at Watch h
 settle_passes (form f) h absent = value_settles of_form (stream_word f) h absent
 settle_passes (report_as r) h absent = value_settles of_report (report_word r) h absent
 settle_passes sizes h absent = refl
+settle_passes owl h absent = refl
 
 -- ---- the options in turn
 
@@ -102,6 +110,11 @@ options_pass (sizes ∷ cs) h once fresh passes =
     (option_words cs) (sizes_passes h passes fresh.0) (sizes_step h)
     (options_pass cs (held_with sizes h) once.1 (fresh_later sizes cs h once.0 fresh)
     (settle_passes sizes h fresh.0))
+options_pass (owl ∷ cs) h once fresh passes =
+    turn_then Watch (stands h) (stands (held_with owl h)) (option_word (codes "owl"))
+    (option_words cs) (owl_passes h passes fresh.0) (owl_step h)
+    (options_pass cs (held_with owl h) once.1 (fresh_later owl cs h once.0 fresh)
+    (settle_passes owl h fresh.0))
 
 -- ---- the two words that stand at their places
 
@@ -161,16 +174,17 @@ defaults_pass Contain rows = simp (or_true, same_either)
 defaults_pass Audit rows = simp (or_true, same_either)
 defaults_pass Drill rows = simp (or_true, same_either)
 
--- the rows with the flag's default, which is the only one
-abbrev pub with_flag : CommandName → List Row → List Row
-with_flag Watch rows = with_default rows sizes_built
-with_flag Rewrite rows = rows
-with_flag Contain rows = rows
-with_flag Audit rows = rows
-with_flag Drill rows = rows
+-- the rows with the flags' defaults, which are the only ones
+abbrev pub with_flags : CommandName → List Row → List Row
+with_flags Watch rows =
+    with_default (with_default rows (flag_built (codes "owl"))) (flag_built (codes "sizes"))
+with_flags Rewrite rows = with_default rows (flag_built (codes "owl"))
+with_flags Contain rows = with_default rows (flag_built (codes "owl"))
+with_flags Audit rows = with_default rows (flag_built (codes "owl"))
+with_flags Drill rows = rows
 
 pub finished_is : (c : CommandName) (rows : List Row)
-    → fold with_default rows (rules c) ≡ with_flag c rows
+    → fold with_default rows (rules c) ≡ with_flags c rows
 unfolding rules clap_on_literals
 finished_is Watch rows = simp same_either
 finished_is Rewrite rows = simp same_either

@@ -13,10 +13,10 @@ use Rattle.command_words.specs.declared.names.CommandName.{CommandName}
 use Rattle.command_words.specs.declared.names.CommandName.TheVariants.{Watch, Rewrite, Contain}
 use Rattle.command_words.specs.declared.names.CommandName.TheVariants.{Audit, Drill}
 use Rattle.command_words.specs.Canonical.{AreOnce, Choice, form, has_name, name_of, report_as}
-use Rattle.command_words.specs.Canonical.{report_word, sizes, stream_word}
-use Rattle.command_words.proofs.Walking.{Valued, by_id, first_id, held_after, held_places}
-use Rattle.command_words.proofs.Walking.{held_value, held_with, of_form, of_report, place_built}
-use Rattle.command_words.proofs.Walking.{rules, second_id, sizes_built, value_built, valued_name}
+use Rattle.command_words.specs.Canonical.{report_word, sizes, owl, stream_word}
+use Rattle.command_words.proofs.Walking.{Valued, by_id, first_id, flag_built, held_after}
+use Rattle.command_words.proofs.Walking.{held_places, held_value, held_with, of_form, of_report}
+use Rattle.command_words.proofs.Walking.{place_built, rules, second_id, value_built, valued_name}
 
 pub or_parts : (a b : Bool) → (a || b) ≡ false → (a ≡ false) × (b ≡ false)
 or_parts false b none = (refl, none)
@@ -40,11 +40,13 @@ abbrev pub value_of : Choice → Text
 value_of (form f) = stream_word f
 value_of (report_as r) = report_word r
 value_of sizes = codes "true"
+value_of owl = codes "true"
 
 abbrev pub reading_of_choice : Choice → Reading
 reading_of_choice (form f) = reading_by (value_built (codes "form"))
 reading_of_choice (report_as r) = reading_by (value_built (codes "report"))
-reading_of_choice sizes = reading_by sizes_built
+reading_of_choice sizes = reading_by (flag_built (codes "sizes"))
+reading_of_choice owl = reading_by (flag_built (codes "owl"))
 
 abbrev pub row_of_choice : Choice → Row
 row_of_choice c = record {
@@ -86,6 +88,10 @@ rows_step sizes h absent =
     rw (without_absent (codes "sizes") (rows_at Watch h) absent)
     (at_absent (codes "sizes") (more_values CommandLine (codes "true" ∷ []))
     (row_of_choice sizes ∷ []) (rows_at Watch h) absent)
+rows_step owl h absent =
+    rw (without_absent (codes "owl") (rows_at Watch h) absent)
+    (at_absent (codes "owl") (more_values CommandLine (codes "true" ∷ []))
+    (row_of_choice owl ∷ []) (rows_at Watch h) absent)
 
 -- none of the choices has a row
 abbrev pub AreFresh : List Choice → List Row → Type 0
@@ -148,6 +154,7 @@ is_fresh : (c : Choice) (a b : Text) → has_row (name_of c) (place_rows Watch a
 is_fresh (form f) a b = refl
 is_fresh (report_as r) a b = refl
 is_fresh sizes a b = refl
+is_fresh owl a b = refl
 
 are_fresh : (cs : List Choice) (a b : Text) → AreFresh cs (place_rows Watch a b)
 are_fresh [] a b = tt

@@ -17,8 +17,8 @@ use Rattle.forms.specs.declared.LineForm.TheVariants as line
 use Rattle.forms.specs.declared.ReportForm.TheVariants as report
 use Rattle.command_words.specs.Commands.{app_of_command, flag_rule, place_rule, value_rule}
 use Rattle.command_words.specs.Meanings.{is_file}
-use Rattle.command_words.specs.Canonical.{Choice, form, report_as, sizes, option_word, option_words}
-use Rattle.command_words.specs.Canonical.{report_word, stream_word}
+use Rattle.command_words.specs.Canonical.{Choice, form, report_as, sizes, owl, option_word}
+use Rattle.command_words.specs.Canonical.{option_words, report_word, stream_word}
 
 -- ---- each command as it is built
 
@@ -28,8 +28,8 @@ place_built i id = with_index i (filled (place_rule id))
 abbrev pub value_built : Text → Rule
 value_built name = with_index 3 (filled (value_rule name))
 
-abbrev pub sizes_built : Rule
-sizes_built = with_index 3 (filled (flag_rule (codes "sizes")))
+abbrev pub flag_built : Text → Rule
+flag_built name = with_index 3 (filled (flag_rule name))
 
 abbrev pub first_id : CommandName → Text
 first_id Watch = codes "ontology"
@@ -53,10 +53,12 @@ command_name Audit = codes "audit"
 command_name Drill = codes "drill"
 
 abbrev option_rules : CommandName → List Rule
-option_rules Watch = value_built (codes "form") ∷ value_built (codes "report") ∷ sizes_built ∷ []
-option_rules Rewrite = []
-option_rules Contain = []
-option_rules Audit = []
+option_rules Watch =
+    flag_built (codes "owl") ∷ value_built (codes "form") ∷ value_built (codes "report")
+    ∷ flag_built (codes "sizes") ∷ []
+option_rules Rewrite = flag_built (codes "owl") ∷ []
+option_rules Contain = flag_built (codes "owl") ∷ []
+option_rules Audit = flag_built (codes "owl") ∷ []
 option_rules Drill = []
 
 unfoldable pub rules : CommandName → List Rule
@@ -126,9 +128,20 @@ unfolding rules clap_on_literals
 by_id of_form = refl
 by_id of_report = refl
 
-pub sizes_by_long : arg_by_long (rules Watch) (codes "sizes") ≡ Some sizes_built
+-- the flags
+pub data Flag : Type 0 where
+  of_sizes : Flag
+  of_owl : Flag
+
+abbrev pub flag_name : Flag → Text
+flag_name of_sizes = codes "sizes"
+flag_name of_owl = codes "owl"
+
+pub flag_by_long : (f : Flag) → arg_by_long (rules Watch) (flag_name f)
+    ≡ Some (flag_built (flag_name f))
 unfolding rules clap_on_literals
-sizes_by_long = refl
+flag_by_long of_sizes = refl
+flag_by_long of_owl = refl
 
 pub option_reads : (n : Valued)
     → (long_of (option_word (valued_name n)) ≡ Some (valued_name n, None))
@@ -156,14 +169,15 @@ waits id h = record {
   stopped = None;
 }
 
--- what is held after an option with a value, and after the flag
+-- what is held after an option with a value, and after a flag
 abbrev pub held_value : Valued → Text → Held → Held
 held_value n t h = record (settled (rules Watch) h) { pending = Some (valued_name n, t ∷ []) }
 
 abbrev pub held_with : Choice → Held → Held
 held_with (form f) h = held_value of_form (stream_word f) h
 held_with (report_as r) h = held_value of_report (report_word r) h
-held_with sizes h = reacted (rules Watch) sizes_built [] h
+held_with sizes h = reacted (rules Watch) (flag_built (codes "sizes")) [] h
+held_with owl h = reacted (rules Watch) (flag_built (codes "owl")) [] h
 
 pub name_step : (n : Valued) (h : Held)
     → walked (rules Watch) [] (stands h) (option_word (valued_name n)) ≡ waits (valued_name n) h
@@ -180,7 +194,12 @@ value_step n h t file =
 pub sizes_step : (h : Held) → walked (rules Watch) [] (stands h) (option_word (codes "sizes"))
     ≡ stands (held_with sizes h)
 unfolding walked clap_on_literals
-sizes_step h = rw sizes_by_long
+sizes_step h = rw (flag_by_long of_sizes)
+
+pub owl_step : (h : Held) → walked (rules Watch) [] (stands h) (option_word (codes "owl"))
+    ≡ stands (held_with owl h)
+unfolding walked clap_on_literals
+owl_step h = rw (flag_by_long of_owl)
 
 -- ---- the options in turn
 
@@ -209,6 +228,9 @@ walk_options (report_as r ∷ cs) h =
 walk_options (sizes ∷ cs) h =
     ap (λ w. fold (walked (rules Watch) []) w (option_words cs)) (sizes_step h) ∙ walk_options cs
     (held_with sizes h)
+walk_options (owl ∷ cs) h =
+    ap (λ w. fold (walked (rules Watch) []) w (option_words cs)) (owl_step h) ∙ walk_options cs
+    (held_with owl h)
 
 -- ---- the two words that stand at their places
 

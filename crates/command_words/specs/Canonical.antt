@@ -1,6 +1,6 @@
--- The canonical words of each command: its name, its two arguments, and for a watch its options.
+-- The canonical words of each command: its name, its two arguments, and its options.
 use Rattle.std.specs.Prelude.{◌≡◌, ◌≤◌, ℕ, Bool, true, false, List, [], ◌∷◌, codes, decimal}
-use Rattle.std.specs.Prelude.{MatchResult, Result}
+use Rattle.std.specs.Prelude.{if◌then◌else◌, MatchResult, Result}
 use Rattle.std.specs.List.{list_any}
 use Rattle.std.specs.Str.{bytes_eq}
 use Rattle.clap.specs.Walk.{Text}
@@ -21,13 +21,15 @@ pub data Choice : Type 0 where
   form : StreamForm → Choice
   report_as : ReportForm → Choice
   sizes : Choice
+  owl : Choice
 
--- the command with what follows its name
+-- the command with what follows its name. A rewriting, a test of containment and an audit have one
+-- option, which stands or not
 pub data Canonical : Type 0 where
   watch : Text → Text → List Choice → Canonical
-  rewrite : Text → Text → Canonical
-  contain : Text → Text → Canonical
-  audit : Text → Text → Canonical
+  rewrite : Text → Text → Bool → Canonical
+  contain : Text → Text → Bool → Canonical
+  audit : Text → Text → Bool → Canonical
   drill : ℕ → ℕ → Canonical
 
 -- ---- the words
@@ -48,6 +50,7 @@ abbrev pub name_of : Choice → Text
 name_of (form f) = codes "form"
 name_of (report_as r) = codes "report"
 name_of sizes = codes "sizes"
+name_of owl = codes "owl"
 
 -- the word for an option: two hyphens (45) and its name
 abbrev pub option_word : Text → Text
@@ -59,14 +62,22 @@ option_words [] = []
 option_words (form f ∷ rest) = option_word (codes "form") ∷ stream_word f ∷ option_words rest
 option_words (report_as r ∷ rest) = option_word (codes "report") ∷ report_word r ∷ option_words rest
 option_words (sizes ∷ rest) = option_word (codes "sizes") ∷ option_words rest
+option_words (owl ∷ rest) = option_word (codes "owl") ∷ option_words rest
+
+-- the option that says that the ontology is an OWL 2 document, where it is
+abbrev pub owl_choices : Bool → List Choice
+owl_choices is_owl = if is_owl then owl ∷ [] else []
 
 -- the canonical words
 abbrev pub canonical_words : Canonical → List Text
 canonical_words (watch ontology queries choices) =
     codes "watch" ∷ ontology ∷ queries ∷ option_words choices
-canonical_words (rewrite ontology queries) = codes "rewrite" ∷ ontology ∷ queries ∷ []
-canonical_words (contain ontology queries) = codes "contain" ∷ ontology ∷ queries ∷ []
-canonical_words (audit ontology queries) = codes "audit" ∷ ontology ∷ queries ∷ []
+canonical_words (rewrite ontology queries is_owl) =
+    codes "rewrite" ∷ ontology ∷ queries ∷ option_words (owl_choices is_owl)
+canonical_words (contain ontology queries is_owl) =
+    codes "contain" ∷ ontology ∷ queries ∷ option_words (owl_choices is_owl)
+canonical_words (audit ontology queries is_owl) =
+    codes "audit" ∷ ontology ∷ queries ∷ option_words (owl_choices is_owl)
 canonical_words (drill seed count) = codes "drill" ∷ decimal seed ∷ decimal count ∷ []
 
 -- ---- which are canonical
@@ -85,9 +96,9 @@ AreOnce (choice ∷ rest) = (has_name (name_of choice) rest ≡ false) × AreOnc
 abbrev pub IsCanonical : Canonical → Type 0
 IsCanonical (watch ontology queries choices) = (is_file ontology ≡ true) × (is_file queries ≡ true)
     × AreOnce choices
-IsCanonical (rewrite ontology queries) = (is_file ontology ≡ true) × (is_file queries ≡ true)
-IsCanonical (contain ontology queries) = (is_file ontology ≡ true) × (is_file queries ≡ true)
-IsCanonical (audit ontology queries) = (is_file ontology ≡ true) × (is_file queries ≡ true)
+IsCanonical (rewrite ontology queries is_owl) = (is_file ontology ≡ true) × (is_file queries ≡ true)
+IsCanonical (contain ontology queries is_owl) = (is_file ontology ≡ true) × (is_file queries ≡ true)
+IsCanonical (audit ontology queries is_owl) = (is_file ontology ≡ true) × (is_file queries ≡ true)
 IsCanonical (drill seed count) = (seed ≤ 2147483647) × (count ≤ 100000)
 
 -- ---- what they say
@@ -98,6 +109,7 @@ form_said [] = stream.Text
 form_said (form f ∷ rest) = f
 form_said (report_as r ∷ rest) = form_said rest
 form_said (sizes ∷ rest) = form_said rest
+form_said (owl ∷ rest) = form_said rest
 
 -- the form of the report that the options say, or text
 abbrev pub report_said : List Choice → ReportForm
@@ -105,19 +117,21 @@ report_said [] = report.Lines line.Text
 report_said (form f ∷ rest) = report_said rest
 report_said (report_as r ∷ rest) = r
 report_said (sizes ∷ rest) = report_said rest
+report_said (owl ∷ rest) = report_said rest
 
 -- what the canonical words mean
 abbrev pub canonical_meaning : Canonical → Meaning
 canonical_meaning (watch ontology queries choices) = watches (record {
   ontology = ontology;
   queries = queries;
+  owl = has_name (codes "owl") choices;
   form = form_said choices;
   report = report_said choices;
   sizes = has_name (codes "sizes") choices;
 })
-canonical_meaning (rewrite ontology queries) = rewrites ontology queries
-canonical_meaning (contain ontology queries) = contains ontology queries
-canonical_meaning (audit ontology queries) = audits ontology queries
+canonical_meaning (rewrite ontology queries is_owl) = rewrites ontology queries is_owl
+canonical_meaning (contain ontology queries is_owl) = contains ontology queries is_owl
+canonical_meaning (audit ontology queries is_owl) = audits ontology queries is_owl
 canonical_meaning (drill seed count) = drills seed count
 
 -- the answer is this meaning, or want of memory

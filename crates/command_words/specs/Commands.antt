@@ -66,14 +66,18 @@ abbrev pub places_app : Text → Text → Text → App
 places_app name first second =
     with_rule (with_rule (without_help (new_app name)) (place_rule first)) (place_rule second)
 
--- the command with its arguments, its options and its flag
+-- a command of an ontology and queries, with the flag that says how the ontology is written
+abbrev pub files_app : Text → App
+files_app name =
+    with_rule (places_app name (codes "ontology") (codes "queries")) (flag_rule (codes "owl"))
+
+-- the command with its arguments, its options and its flags
 unfoldable pub app_of_command : CommandName → App
-app_of_command Watch = with_rule (with_rule (with_rule
-    (places_app (codes "watch") (codes "ontology") (codes "queries"))
+app_of_command Watch = with_rule (with_rule (with_rule (files_app (codes "watch"))
     (value_rule (codes "form"))) (value_rule (codes "report"))) (flag_rule (codes "sizes"))
-app_of_command Rewrite = places_app (codes "rewrite") (codes "ontology") (codes "queries")
-app_of_command Contain = places_app (codes "contain") (codes "ontology") (codes "queries")
-app_of_command Audit = places_app (codes "audit") (codes "ontology") (codes "queries")
+app_of_command Rewrite = files_app (codes "rewrite")
+app_of_command Contain = files_app (codes "contain")
+app_of_command Audit = files_app (codes "audit")
 app_of_command Drill = places_app (codes "drill") (codes "seed") (codes "count")
 
 -- ---- clap's exact function of a simple command, which reads the words after the first

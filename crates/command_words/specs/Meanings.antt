@@ -22,31 +22,32 @@ use Rattle.command_words.specs.Commands.{are_taken, command_of, faults_in, rows_
 
 -- ---- what words ask for
 
--- a watch: the names of its files, the form of its stream, the form of its report, and whether the
--- report tells the kept sizes
+-- a watch: the names of its files, whether the ontology is an OWL 2 document, the form of its
+-- stream, the form of its report, and whether the report tells the kept sizes
 pub record Watching : Type 0 where
   pub ontology : Text
   pub queries : Text
+  pub owl : Bool
   pub form : StreamForm
   pub report : ReportForm
   pub sizes : Bool
 
 -- a watch, a rewriting of the queries by the ontology of these files, a test of the containment of
 -- these queries under this ontology, an audit of models by these files, or a drill of this seed and
--- so many snapshots
+-- so many snapshots. All but a drill also say whether the ontology is an OWL 2 document
 pub data Meaning : Type 0 where
   watch : Watching → Meaning
-  rewrite : Text → Text → Meaning
-  contain : Text → Text → Meaning
-  audit : Text → Text → Meaning
+  rewrite : Text → Text → Bool → Meaning
+  contain : Text → Text → Bool → Meaning
+  audit : Text → Text → Bool → Meaning
   drill : ℕ → ℕ → Meaning
 
 -- the seed of a drill is at most 2,147,483,647, and it has at most 100,000 snapshots
 abbrev pub IsWithinLimits : Meaning → Type 0
 IsWithinLimits (watch w) = Unit {0}
-IsWithinLimits (rewrite ontology queries) = Unit {0}
-IsWithinLimits (contain ontology queries) = Unit {0}
-IsWithinLimits (audit ontology queries) = Unit {0}
+IsWithinLimits (rewrite ontology queries owl) = Unit {0}
+IsWithinLimits (contain ontology queries owl) = Unit {0}
+IsWithinLimits (audit ontology queries owl) = Unit {0}
 IsWithinLimits (drill seed count) = (seed ≤ 2147483647) × (count ≤ 100000)
 
 -- ---- what each value means
@@ -89,9 +90,9 @@ stream_form_in rows = stream_form_of (unwrap_or (first_of (codes "form") rows) (
 unfoldable pub report_form_in : List Row → Option ReportForm
 report_form_in rows = report_form_of (unwrap_or (first_of (codes "report") rows) (codes "text"))
 
--- whether the kept sizes are asked for
-unfoldable pub sizes_in : List Row → Bool
-sizes_in rows = bytes_eq (unwrap_or (first_of (codes "sizes") rows) (codes "false")) (codes "true")
+-- whether a flag is there
+unfoldable pub flag_in : Text → List Row → Bool
+flag_in id rows = bytes_eq (unwrap_or (first_of id rows) (codes "false")) (codes "true")
 
 -- what the arguments of a watch mean
 abbrev pub watch_in : List Row → Option Watching
@@ -100,25 +101,32 @@ watch_in rows =
     option_and_then (λ form. option_map (λ report. record {
       ontology = ontology;
       queries = queries;
+      owl = flag_in (codes "owl") rows;
       form = form;
       report = report;
-      sizes = sizes_in rows;
+      sizes = flag_in (codes "sizes") rows;
     }) (report_form_in rows)) (stream_form_in rows))
     (file_in (codes "queries") rows)) (file_in (codes "ontology") rows)
 
 -- what the arguments of a rewriting mean
 abbrev pub rewrite_in : List Row → Option Meaning
-rewrite_in rows = option_and_then (λ ontology. option_map (rewrite ontology)
+rewrite_in rows =
+    option_and_then (λ ontology. option_map (λ queries.
+    rewrite ontology queries (flag_in (codes "owl") rows))
     (file_in (codes "queries") rows)) (file_in (codes "ontology") rows)
 
 -- what the arguments of a test of containment mean
 abbrev pub contain_in : List Row → Option Meaning
-contain_in rows = option_and_then (λ ontology. option_map (contain ontology)
+contain_in rows =
+    option_and_then (λ ontology. option_map (λ queries.
+    contain ontology queries (flag_in (codes "owl") rows))
     (file_in (codes "queries") rows)) (file_in (codes "ontology") rows)
 
 -- what the arguments of an audit mean
 abbrev pub audit_in : List Row → Option Meaning
-audit_in rows = option_and_then (λ ontology. option_map (audit ontology)
+audit_in rows =
+    option_and_then (λ ontology. option_map (λ queries.
+    audit ontology queries (flag_in (codes "owl") rows))
     (file_in (codes "queries") rows)) (file_in (codes "ontology") rows)
 
 -- what the arguments of a drill mean
@@ -150,6 +158,7 @@ abbrev pub watching_of : Watch → Watching
 watching_of w = record {
   ontology = w.ontology.now;
   queries = w.queries.now;
+  owl = w.owl;
   form = w.form;
   report = w.report;
   sizes = w.sizes;
@@ -158,9 +167,9 @@ watching_of w = record {
 -- what a request asks for
 abbrev pub meaning_of : Request → Meaning
 meaning_of (request.Watch w) = watch (watching_of w)
-meaning_of (request.Rewrite ontology queries) = rewrite ontology.now queries.now
-meaning_of (request.Contain ontology queries) = contain ontology.now queries.now
-meaning_of (request.Audit ontology queries) = audit ontology.now queries.now
+meaning_of (request.Rewrite ontology queries owl) = rewrite ontology.now queries.now owl
+meaning_of (request.Contain ontology queries owl) = contain ontology.now queries.now owl
+meaning_of (request.Audit ontology queries owl) = audit ontology.now queries.now owl
 meaning_of (request.Drill seed count) = drill seed count
 
 -- a refusal comes only where the words mean nothing, or for want of memory

@@ -3,7 +3,8 @@
 ghost use Rattle.std.specs.Prelude.{◌≡◌, ◌≢◌, [], IfOk, OnOk, false, true};
 ghost use Rattle.clap.specs.Words.{app_of, found_of, new_app, rows_of, rule_of};
 ghost use Rattle.command_words.specs.Commands.{app_of_command, are_taken, faults_in, flag_rule};
-ghost use Rattle.command_words.specs.Commands.{place_rule, places_app, rows_in, texts_of};
+ghost use Rattle.command_words.specs.Commands.{files_app, place_rule, places_app, rows_in};
+ghost use Rattle.command_words.specs.Commands.{texts_of};
 ghost use Rattle.command_words.specs.Commands.{value_rule, without_help};
 
 use crate::names::CommandName;
@@ -58,14 +59,22 @@ fn two_places<'a>(
     bare_command(alloc, name).arg(first)?.arg(second)
 }
 
-/// The command `watch`, which alone has options and a flag.
+/// A command of an ontology and queries, with the flag that says how the ontology is written.
+fn two_files<'a>(alloc: Global, name: &'a str) -> Result<Command<'a>, AllocError>
+    ensures { IfOk result (λ c. app_of c ≡ files_app name.entry.now) }
+{
+    let owl = flag_argument(alloc, "owl");
+    two_places(alloc, name, "ontology", "queries")?.arg(owl)
+}
+
+/// The command `watch`, which alone has more options.
 fn watch_command<'a>(alloc: Global) -> Result<Command<'a>, AllocError>
     ensures { IfOk result (λ c. app_of c ≡ app_of_command CommandName.Watch) }
 {
     let form = value_argument(alloc, "form");
     let report = value_argument(alloc, "report");
     let sizes = flag_argument(alloc, "sizes");
-    two_places(alloc, "watch", "ontology", "queries")?
+    two_files(alloc, "watch")?
         .arg(form)?
         .arg(report)?
         .arg(sizes)
@@ -78,9 +87,9 @@ fn command<'a>(alloc: Global, name: CommandName) -> Result<Command<'a>, AllocErr
 {
     match name {
         CommandName::Watch => watch_command(alloc),
-        CommandName::Rewrite => two_places(alloc, "rewrite", "ontology", "queries"),
-        CommandName::Contain => two_places(alloc, "contain", "ontology", "queries"),
-        CommandName::Audit => two_places(alloc, "audit", "ontology", "queries"),
+        CommandName::Rewrite => two_files(alloc, "rewrite"),
+        CommandName::Contain => two_files(alloc, "contain"),
+        CommandName::Audit => two_files(alloc, "audit"),
         CommandName::Drill => two_places(alloc, "drill", "seed", "count"),
     }
 }

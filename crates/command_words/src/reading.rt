@@ -39,8 +39,9 @@ fn read_arguments<'a>(
 
 /// What the words of the command line after the program's name ask for.
 ///
-/// The first word names the command, and `clap` reads the others: two arguments, and for `watch`
-/// its options. No word may be empty, `-` or `--`. Words that ask for nothing are `Usage`.
+/// The first word names the command, and `clap` reads the others: two arguments, `--owl` where the
+/// first of them is an ontology, and for `watch` its options. No word may be empty, `-` or `--`.
+/// Words that ask for nothing are `Usage`.
 pub fn read_words<'a>(alloc: Global, words: &'a [String]) -> Result<Request<'a>, WordsFault>
     ensures answers { Answers (meaning_of_words (texts_of words.entry.now)) result }
     ensures limits { IfOk result (λ request. IsWithinLimits (meaning_of request)) }

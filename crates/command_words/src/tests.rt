@@ -18,6 +18,7 @@ fn watch_of(form: StreamForm, report: ReportForm, sizes: bool) -> Request<'stati
     Request::Watch(Watch {
         ontology: "O",
         queries: "Q",
+        owl: false,
         form,
         report,
         sizes,
@@ -51,14 +52,17 @@ fn accepts_rewritings_and_drills(rt: HostRuntime) -> Result<(), Fail> {
     let rewriting = Request::Rewrite {
         ontology: "O",
         queries: "Q",
+        owl: false,
     };
     let containment = Request::Contain {
         ontology: "O",
         queries: "Q",
+        owl: false,
     };
     let audit = Request::Audit {
         ontology: "O",
         queries: "Q",
+        owl: false,
     };
     for (line, request) in [
         ("rewrite O Q", rewriting),
@@ -73,6 +77,38 @@ fn accepts_rewritings_and_drills(rt: HostRuntime) -> Result<(), Fail> {
                 count: 100_000,
             },
         ),
+    ] {
+        let words = words_of(rt.alloc(), line)?;
+        assert_eq!(rt; read_words(rt.alloc(), &words), Ok(request), "{line}");
+    }
+    Ok(())
+}
+
+#[test]
+fn accepts_documents(rt: HostRuntime) -> Result<(), Fail> {
+    let watch = Request::Watch(Watch {
+        ontology: "O",
+        queries: "Q",
+        owl: true,
+        form: StreamForm::Text,
+        report: ReportForm::Lines(LineForm::Text),
+        sizes: true,
+    });
+    let rewriting = Request::Rewrite {
+        ontology: "O",
+        queries: "Q",
+        owl: true,
+    };
+    let containment = Request::Contain {
+        ontology: "O",
+        queries: "Q",
+        owl: true,
+    };
+    for (line, request) in [
+        ("watch O Q --sizes --owl", watch),
+        ("watch --owl O Q --sizes", watch),
+        ("rewrite O Q --owl", rewriting),
+        ("contain --owl O Q", containment),
     ] {
         let words = words_of(rt.alloc(), line)?;
         assert_eq!(rt; read_words(rt.alloc(), &words), Ok(request), "{line}");
@@ -116,12 +152,16 @@ fn refuses_other_words(rt: HostRuntime) -> Result<(), Fail> {
         "rewrite O Q R",
         "rewrite O Q --sizes",
         "rewrite O Q --form json",
+        "rewrite O Q --owl --owl",
+        "rewrite O Q --owl=1",
+        "watch O Q --ow",
         "contain O",
         "contain O Q --sizes",
         "audit O",
         "drill 1",
         "drill 1 1 1",
         "drill 1 1 --sizes",
+        "drill 1 1 --owl",
         "drill 07 3",
         "drill +7 3",
         "drill -7 3",

@@ -2,11 +2,11 @@
 
 ghost use Rattle.std.specs.Prelude.{◌≡◌, ◌≤◌, MatchOption, codes, option_map, unwrap_or};
 ghost use Rattle.clap.specs.Words.{first_of, found_of, rows_of};
-ghost use Rattle.command_words.specs.Meanings.{IsWithinLimits, audit_in, contain_in};
-ghost use Rattle.command_words.specs.Meanings.{drill_in, file_in, file_of, is_file, meaning_in};
-ghost use Rattle.command_words.specs.Meanings.{meaning_of, number_in};
-ghost use Rattle.command_words.specs.Meanings.{report_form_in, report_form_of, rewrite_in};
-ghost use Rattle.command_words.specs.Meanings.{sizes_in, stream_form_in, stream_form_of, watch_in};
+ghost use Rattle.command_words.specs.Meanings.{IsWithinLimits, audit_in, contain_in, drill_in};
+ghost use Rattle.command_words.specs.Meanings.{file_in, file_of, is_file, meaning_in, meaning_of};
+ghost use Rattle.command_words.specs.Meanings.{number_in};
+ghost use Rattle.command_words.specs.Meanings.{flag_in, report_form_in, report_form_of, rewrite_in};
+ghost use Rattle.command_words.specs.Meanings.{stream_form_in, stream_form_of, watch_in};
 ghost use Rattle.command_words.specs.Meanings.{watching_of};
 
 use crate::names::CommandName;
@@ -110,12 +110,12 @@ fn report_form(matches: &ArgMatches) -> Option<ReportForm>
     report_form_of(value_or(matches, "report", "text"))
 }
 
-/// Whether the kept sizes are asked for.
-#[tactic(auto, unfolding(crate::specs::Meanings::sizes_in))]
-fn sizes(matches: &ArgMatches) -> bool
-    ensures { result ≡ sizes_in (rows_of (found_of matches.now)) }
+/// Whether a flag is there.
+#[tactic(auto, unfolding(crate::specs::Meanings::flag_in))]
+fn flag(matches: &ArgMatches, id: &str) -> bool
+    ensures { result ≡ flag_in id.now (rows_of (found_of matches.now)) }
 {
-    value_or(matches, "sizes", "false") == "true"
+    value_or(matches, id, "false") == "true"
 }
 
 /// What the arguments of a watch mean.
@@ -126,10 +126,12 @@ fn watch<'a>(matches: &ArgMatches<'a>) -> Option<Watch<'a>>
     let queries = file(matches, "queries")?;
     let form = stream_form(matches)?;
     let report = report_form(matches)?;
-    let sizes = sizes(matches);
+    let owl = flag(matches, "owl");
+    let sizes = flag(matches, "sizes");
     Some(Watch {
         ontology,
         queries,
+        owl,
         form,
         report,
         sizes,
@@ -144,7 +146,12 @@ fn rewriting<'a>(matches: &ArgMatches<'a>) -> Option<Request<'a>>
 {
     let ontology = file(matches, "ontology")?;
     let queries = file(matches, "queries")?;
-    Some(Request::Rewrite { ontology, queries })
+    let owl = flag(matches, "owl");
+    Some(Request::Rewrite {
+        ontology,
+        queries,
+        owl,
+    })
 }
 
 /// What the arguments of a test of containment mean.
@@ -155,7 +162,12 @@ fn containment<'a>(matches: &ArgMatches<'a>) -> Option<Request<'a>>
 {
     let ontology = file(matches, "ontology")?;
     let queries = file(matches, "queries")?;
-    Some(Request::Contain { ontology, queries })
+    let owl = flag(matches, "owl");
+    Some(Request::Contain {
+        ontology,
+        queries,
+        owl,
+    })
 }
 
 /// What the arguments of an audit mean.
@@ -166,7 +178,12 @@ fn audit<'a>(matches: &ArgMatches<'a>) -> Option<Request<'a>>
 {
     let ontology = file(matches, "ontology")?;
     let queries = file(matches, "queries")?;
-    Some(Request::Audit { ontology, queries })
+    let owl = flag(matches, "owl");
+    Some(Request::Audit {
+        ontology,
+        queries,
+        owl,
+    })
 }
 
 /// What the arguments of a drill mean.

@@ -8,7 +8,7 @@ pub returns : goal.returns
 unfolding app_of_command
 returns c =
     let one = c.in_ok-arg.ensures.shape c.value_argument-form.ensures.local ∙ ap₂ with_rule
-    c.in_ok-two_places.ensures c.value_argument-form.ensures.rule in
+    c.in_ok-two_files.ensures c.value_argument-form.ensures.rule in
     let two = c.in_ok-arg-2.ensures.shape c.value_argument-report.ensures.local ∙ ap₂ with_rule one
     c.value_argument-report.ensures.rule in
     IfOk-weaker c.arg-3.result _ _ (λ r h.
