@@ -3,12 +3,12 @@ use Rattle.std.proofs.Common.{◌≡◌, ℕ, suc, ◌+◌, ◌≤◌, ◌<◌, 
 use Rattle.std.proofs.Common.{sym, ap, ◌∙◌, arith, add-one, drop-cons, map, Result, Ok, Err}
 use Rattle.std.proofs.lemmas.List.{drop_all}
 use Rattle.dl_syntax.specs.Ontology.{Declared}
-use Rattle.owl_reader.specs.declared.items.Item.{Item}
+use Rattle.owl_documents.specs.declared.items.Item.{Item}
 use Rattle.owl_reader.specs.declared.entities.SayFault.{SayFault}
 use Rattle.owl_reader.specs.declared.entities.SayFault.TheVariants as fault_of
-use Rattle.owl_reader.specs.Tables.{Table}
-use Rattle.owl_reader.specs.Items as i
-use Rattle.owl_reader.specs.ItemViews.{item_seen}
+use Rattle.owl_tokens.specs.Tables.{Table}
+use Rattle.owl_documents.specs.Items as i
+use Rattle.owl_documents.specs.ItemViews.{item_seen}
 use Rattle.owl_reader.specs.Statements.{Said, ◌>>=◌, Entities, Vocabulary, item_added, axioms_added}
 use Rattle.owl_reader.specs.Statements.{item_declared, all_declared}
 use Rattle.owl_reader.specs.StatementViews.{Becomes}

@@ -1,12 +1,5 @@
-pub mod Lexing
-pub mod TableLemmas
-pub mod IriLemmas
-pub mod GroupLemmas
-pub mod ManyLemmas
-pub mod AnnotationLemmas
-pub mod PrefixLemmas
-pub mod RefusalLemmas
+mod RefusalLemmas
 pub mod NameLemmas
-pub mod AddingLemmas
-pub mod SayingLemmas
-pub mod ItemLemmas
+mod AddingLemmas
+mod SayingLemmas
+mod ItemLemmas

@@ -4,14 +4,14 @@ use Rattle.std.proofs.Common.{get_or, refl, sym, ap, ◌∙◌, arith, add-one, 
 use Rattle.std.proofs.Common.{Some, None, is_some}
 use Rattle.std.specs.Option.{option_map}
 use Rattle.std.proofs.lemmas.List.{drop_all}
-use Rattle.owl_reader.specs.declared.tokens.Token.{Token}
-use Rattle.owl_reader.specs.declared.terms.Entity.TheVariants as entity_of
-use Rattle.owl_reader.specs.declared.terms.Role.{Role}
-use Rattle.owl_reader.specs.declared.terms.Class.{Class}
-use Rattle.owl_reader.specs.declared.terms.Class.TheVariants as class_of
-use Rattle.owl_reader.specs.Tokens.{Lexeme, lexeme}
+use Rattle.owl_tokens.specs.declared.tokens.Token.{Token}
+use Rattle.owl_documents.specs.declared.terms.Entity.TheVariants as entity_of
+use Rattle.owl_documents.specs.declared.terms.Role.{Role}
+use Rattle.owl_documents.specs.declared.terms.Class.{Class}
+use Rattle.owl_documents.specs.declared.terms.Class.TheVariants as class_of
+use Rattle.owl_tokens.specs.Tokens.{Lexeme, lexeme}
 use Rattle.owl_reader.specs.Refusals.{or_else, first_of}
-use Rattle.owl_reader.proofs.GroupLemmas.{no_token}
+use Rattle.owl_documents.proofs.GroupLemmas.{no_token}
 
 -- what stands for the element behind the last one
 abbrev pub no_role : Role

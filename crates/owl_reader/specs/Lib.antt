@@ -1,13 +1,3 @@
-pub mod Tokens
-pub mod Tables
-pub mod Iris
-pub mod Words
-pub mod Terms
-pub mod Views
-pub mod Items
-pub mod ItemViews
-pub mod Documents
-pub mod DocumentViews
 pub mod Refusals
 pub mod Statements
 pub mod StatementViews

@@ -11,11 +11,11 @@ use Rattle.owl_reader.specs.declared.reading.OwlKind.{OwlKind}
 use Rattle.owl_reader.specs.declared.reading.OwlKind.TheVariants as kind
 use Rattle.owl_reader.specs.declared.reading.OwlFault.{OwlFault}
 use Rattle.owl_reader.specs.declared.reading.OwlFault.TheVariants as fault
-use Rattle.owl_reader.specs.Tokens.{Lexeme, lexed}
-use Rattle.owl_reader.specs.Tables.{Table}
-use Rattle.owl_reader.specs.Terms.{Read}
-use Rattle.owl_reader.specs.Items.{Item}
-use Rattle.owl_reader.specs.Documents.{Document, document_read}
+use Rattle.owl_tokens.specs.Tokens.{Lexeme, lexed}
+use Rattle.owl_tokens.specs.Tables.{Table}
+use Rattle.owl_documents.specs.Terms.{Read}
+use Rattle.owl_documents.specs.Items.{Item}
+use Rattle.owl_documents.specs.Documents.{Document, document_read}
 use Rattle.owl_reader.specs.Refusals.{first_of, in_item}
 use Rattle.owl_reader.specs.Statements.{Said, ◌>>=◌, no_entities, Vocabulary, all_declared}
 use Rattle.owl_reader.specs.Statements.{axioms_added}

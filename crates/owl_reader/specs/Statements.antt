@@ -13,15 +13,15 @@ use Rattle.ontology_reader.specs.Sayings.{RoleTerm, BasicTerm, concept, existing
 use Rattle.ontology_reader.specs.Sayings.{declares, includes, includes_qualified, includes_roles}
 use Rattle.ontology_reader.specs.Sayings.{disjoint, disjoint_roles}
 use Rattle.ontology_reader.specs.Adding.{added}
-use Rattle.owl_reader.specs.declared.words.Head.{Head}
-use Rattle.owl_reader.specs.declared.words.Head.TheVariants as head
+use Rattle.owl_tokens.specs.declared.words.Head.{Head}
+use Rattle.owl_tokens.specs.declared.words.Head.TheVariants as head
 use Rattle.owl_reader.specs.declared.entities.Flaw.{Flaw}
 use Rattle.owl_reader.specs.declared.entities.Flaw.TheVariants as flaw
-use Rattle.owl_reader.specs.Tokens.{Lexeme}
-use Rattle.owl_reader.specs.Tables.{Table, looked_up, put}
-use Rattle.owl_reader.specs.Iris.{expanded, name_of}
-use Rattle.owl_reader.specs.Terms as t
-use Rattle.owl_reader.specs.Items as i
+use Rattle.owl_tokens.specs.Tokens.{Lexeme}
+use Rattle.owl_tokens.specs.Tables.{Table, looked_up, put}
+use Rattle.owl_tokens.specs.Iris.{expanded, name_of}
+use Rattle.owl_documents.specs.Terms as t
+use Rattle.owl_documents.specs.Items as i
 
 -- what is said, or the first flaw with the place of its token
 abbrev pub Said : Type 0 → Type 0

@@ -4,17 +4,15 @@ ghost use Rattle.std.specs.Prelude.{List, ℕ, ◌≡◌, ◌∷◌, [], ◌++�
 ghost use Rattle.ontology_reader.specs.Answers.{Changes, IsDeclarableSaying};
 ghost use Rattle.ontology_reader.specs.Views as sayings;
 ghost use Rattle.owl_reader.specs.Statements as s;
-ghost use Rattle.owl_reader.specs.Views.{role_seen, class_seen};
-ghost use Rattle.owl_reader.specs.ItemViews.{axiom_seen, item_seen};
+ghost use Rattle.owl_documents.specs.Views.{role_seen, class_seen};
+ghost use Rattle.owl_documents.specs.ItemViews.{axiom_seen, item_seen};
 ghost use Rattle.owl_reader.specs.StatementViews.{Says, Becomes, entities_seen, term_seen};
 
 use crate::entities::{Entities, Flaw, SayFault, Term, class_term, role_term};
-use crate::items::{Axiom, Item};
-use crate::tables::Table;
-use crate::terms::{Class, Role};
-use crate::words::Head;
 use dl_syntax::Ontology;
 use ontology_reader::{BasicTerm, LineFault, RoleTerm, Saying, add};
+use owl_documents::{Axiom, Class, Item, Role};
+use owl_tokens::{Head, Table};
 use std::alloc::Global;
 
 /// The inverse of a role.

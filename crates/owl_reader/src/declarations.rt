@@ -1,22 +1,19 @@
 //! What the declarations of a document say.
 
 ghost use Rattle.std.specs.Prelude.{List, ℕ, ◌≡◌, Some, true, IfOk, OnOk, map, length};
-ghost use Rattle.owl_reader.specs.Tokens.{lexeme};
-ghost use Rattle.owl_reader.specs.Iris.{name_of};
+ghost use Rattle.owl_tokens.specs.Tokens.{lexeme};
+ghost use Rattle.owl_tokens.specs.Iris.{name_of};
 ghost use Rattle.owl_reader.specs.Statements as s;
-ghost use Rattle.owl_reader.specs.Views.{entity_seen};
-ghost use Rattle.owl_reader.specs.ItemViews.{item_seen};
+ghost use Rattle.owl_documents.specs.Views.{entity_seen};
+ghost use Rattle.owl_documents.specs.ItemViews.{item_seen};
 ghost use Rattle.owl_reader.specs.StatementViews.{Becomes, entities_seen};
 ghost use Rattle.owl_reader.specs.VocabularyViews.{vocabulary_seen};
 
 use crate::entities::{Entities, Flaw, SayFault, is_usable, name_under};
-use crate::iris::{expanded, name_of};
-use crate::items::Item;
-use crate::tables::Table;
-use crate::terms::Entity;
-use crate::tokens::Token;
 use dl_syntax::{Kind, Ontology};
 use ontology_reader::{LineFault, Saying, add};
+use owl_documents::{Entity, Item};
+use owl_tokens::{Table, Token, expanded, name_of};
 use std::alloc::{AllocError, Global};
 
 /// The entities and the ontology of the declarations so far.

@@ -3,19 +3,17 @@
 ghost use Rattle.std.specs.Prelude.{List, ℕ, ◌≡◌, true, Some, [], IfOk, OnOk, map, length};
 ghost use Rattle.std.specs.Option.{option_map};
 ghost use Rattle.dl_syntax.specs.Names.{IsDeclarable};
-ghost use Rattle.owl_reader.specs.Tokens.{lexeme};
-ghost use Rattle.owl_reader.specs.Tables.{looked_up};
+ghost use Rattle.owl_tokens.specs.Tokens.{lexeme};
+ghost use Rattle.owl_tokens.specs.Tables.{looked_up};
 ghost use Rattle.owl_reader.specs.Statements as s;
-ghost use Rattle.owl_reader.specs.Views.{entity_seen, role_seen, class_seen};
+ghost use Rattle.owl_documents.specs.Views.{entity_seen, role_seen, class_seen};
 ghost use Rattle.owl_reader.specs.StatementViews.{Says, entities_seen, term_seen};
 ghost use Rattle.ontology_reader.specs.Views as sayings;
 
-use crate::iris::{expanded, name_of};
-use crate::tables::Table;
-use crate::terms::{Class, Entity, Role};
-use crate::tokens::Token;
 use dl_syntax::{Kind, is_name};
 use ontology_reader::{BasicTerm, RoleTerm};
+use owl_documents::{Class, Entity, Role};
+use owl_tokens::{Table, Token, expanded, name_of};
 use std::alloc::{AllocError, AllocFailed, Global};
 
 /// What is at fault in what a document says.

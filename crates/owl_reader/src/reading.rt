@@ -2,10 +2,10 @@
 
 ghost use Rattle.std.specs.Prelude.{List, ℕ, ◌≡◌, ◌≤◌, Ok, None, Some, IfOk, OnOk, map, length};
 ghost use Rattle.std.specs.Prelude.{take};
-ghost use Rattle.owl_reader.specs.Tokens.{lexeme, lexed};
-ghost use Rattle.owl_reader.specs.Documents as d;
-ghost use Rattle.owl_reader.specs.DocumentViews.{document_seen};
-ghost use Rattle.owl_reader.specs.ItemViews.{item_seen};
+ghost use Rattle.owl_tokens.specs.Tokens.{lexeme, lexed};
+ghost use Rattle.owl_documents.specs.Documents as d;
+ghost use Rattle.owl_documents.specs.DocumentViews.{document_seen};
+ghost use Rattle.owl_documents.specs.ItemViews.{item_seen};
 ghost use Rattle.owl_reader.specs.Refusals.{first_of, in_item};
 ghost use Rattle.owl_reader.specs.StatementViews.{Says, Becomes};
 ghost use Rattle.owl_reader.specs.VocabularyViews.{vocabulary_seen};
@@ -13,14 +13,11 @@ ghost use Rattle.owl_reader.specs.Reading as reading;
 
 use crate::axioms::add_axioms;
 use crate::declarations::{Vocabulary, declare_all};
-use crate::documents::{Document, document_read};
 use crate::entities::{Entities, Flaw, SayFault};
-use crate::groups::Stop;
-use crate::items::Item;
 use crate::refusals::first_refused;
-use crate::tables::Table;
-use crate::tokens::{Token, scan, text_of};
 use dl_syntax::Ontology;
+use owl_documents::{Document, Item, Stop, document_read};
+use owl_tokens::{Table, Token, scan, text_of};
 use short_names::ShortName;
 use std::alloc::Global;
 

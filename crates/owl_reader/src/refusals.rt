@@ -2,14 +2,13 @@
 
 ghost use Rattle.std.specs.Prelude.{List, ℕ, ◌≡◌, map};
 ghost use Rattle.std.specs.Option.{option_map};
-ghost use Rattle.owl_reader.specs.Tokens.{lexeme};
+ghost use Rattle.owl_tokens.specs.Tokens.{lexeme};
 ghost use Rattle.owl_reader.specs.Refusals as refusals;
-ghost use Rattle.owl_reader.specs.Views.{entity_seen, role_seen, class_seen};
-ghost use Rattle.owl_reader.specs.ItemViews.{axiom_seen, item_seen};
+ghost use Rattle.owl_documents.specs.Views.{entity_seen, role_seen, class_seen};
+ghost use Rattle.owl_documents.specs.ItemViews.{axiom_seen, item_seen};
 
-use crate::items::{Axiom, Item};
-use crate::terms::{Class, Entity, Role};
-use crate::tokens::Token;
+use owl_documents::{Axiom, Class, Entity, Item, Role};
+use owl_tokens::Token;
 
 fn or_else(first: Option<Token>, later: Option<Token>) -> Option<Token>
     ensures { (bytes : List ℕ) → option_map (lexeme bytes) result

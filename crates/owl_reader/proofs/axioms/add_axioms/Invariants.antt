@@ -1,6 +1,6 @@
 use Rattle.std.proofs.Common.{◌≡◌, ◌-◌, ◌≤◌, length, drop, map}
 use Rattle.owl_reader.specs.Statements.{axioms_added}
-use Rattle.owl_reader.specs.ItemViews.{item_seen}
+use Rattle.owl_documents.specs.ItemViews.{item_seen}
 use Rattle.owl_reader.specs.StatementViews.{entities_seen}
 use Rattle.owl_reader.proofs.axioms.add_axioms.Given as goal
 

@@ -1,6 +1,6 @@
 use Rattle.std.proofs.Common.{◌≡◌, ◌-◌, ◌≤◌, length, drop, map}
 use Rattle.owl_reader.specs.Statements.{all_said, class_term}
-use Rattle.owl_reader.specs.Views.{class_seen}
+use Rattle.owl_documents.specs.Views.{class_seen}
 use Rattle.owl_reader.specs.StatementViews.{term_seen, entities_seen}
 use Rattle.owl_reader.proofs.SayingLemmas.{behind}
 use Rattle.owl_reader.proofs.axioms.class_terms.Given as goal

@@ -1,6 +1,6 @@
 use Rattle.std.proofs.Common.{◌≡◌, ◌-◌, ◌≤◌, length, drop, map}
 use Rattle.owl_reader.specs.Statements.{all_said, role_term}
-use Rattle.owl_reader.specs.Views.{role_seen}
+use Rattle.owl_documents.specs.Views.{role_seen}
 use Rattle.owl_reader.specs.StatementViews.{term_seen, entities_seen}
 use Rattle.owl_reader.proofs.SayingLemmas.{behind}
 use Rattle.owl_reader.proofs.axioms.role_terms.Given as goal

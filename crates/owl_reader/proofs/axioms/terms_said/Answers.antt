@@ -1,10 +1,10 @@
 use Rattle.std.proofs.Common.{◌≡◌, List, sym, ap, subst, ◌∙◌, map}
-use Rattle.owl_reader.specs.declared.terms.Role.{Role}
-use Rattle.owl_reader.specs.declared.terms.Class.{Class}
+use Rattle.owl_documents.specs.declared.terms.Role.{Role}
+use Rattle.owl_documents.specs.declared.terms.Class.{Class}
 use Rattle.owl_reader.specs.Statements.{Said, ◌>>=◌, Term, all_said, role_term, class_term}
 use Rattle.owl_reader.specs.Statements.{said_behind, terms_said}
-use Rattle.owl_reader.specs.Views.{role_seen, class_seen}
-use Rattle.owl_reader.specs.ItemViews.{axiom_seen}
+use Rattle.owl_documents.specs.Views.{role_seen, class_seen}
+use Rattle.owl_documents.specs.ItemViews.{axiom_seen}
 use Rattle.owl_reader.specs.StatementViews.{Says, term_seen, entities_seen}
 use Rattle.owl_reader.proofs.axioms.terms_said.Goals as goal
 

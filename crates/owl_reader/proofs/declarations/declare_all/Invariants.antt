@@ -1,6 +1,6 @@
 use Rattle.std.proofs.Common.{◌≡◌, ◌-◌, ◌≤◌, length, drop, map}
 use Rattle.owl_reader.specs.Statements.{all_declared}
-use Rattle.owl_reader.specs.ItemViews.{item_seen}
+use Rattle.owl_documents.specs.ItemViews.{item_seen}
 use Rattle.owl_reader.specs.VocabularyViews.{vocabulary_seen}
 use Rattle.owl_reader.proofs.declarations.declare_all.Given as goal
 

@@ -1,4 +1,4 @@
-use Rattle.owl_reader.proofs.IriLemmas.{agree}
+use Rattle.owl_tokens.proofs.IriLemmas.{agree}
 use Rattle.owl_reader.proofs.NameLemmas.{name_decides}
 use Rattle.owl_reader.specs.Statements.{is_name}
 use Rattle.owl_reader.proofs.entities.is_spelled.Goals as goal

@@ -1,6 +1,6 @@
 use Rattle.std.proofs.Common.{List, Ok, subst, map}
-use Rattle.owl_reader.specs.declared.items.Item.{Item}
-use Rattle.owl_reader.specs.ItemViews.{item_seen}
+use Rattle.owl_documents.specs.declared.items.Item.{Item}
+use Rattle.owl_documents.specs.ItemViews.{item_seen}
 use Rattle.owl_reader.specs.Refusals.{first_of, in_item}
 use Rattle.owl_reader.specs.Reading.{Tells, taken_says}
 use Rattle.owl_reader.proofs.reading.document_says.Goals as goal

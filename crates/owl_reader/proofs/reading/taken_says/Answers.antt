@@ -4,9 +4,9 @@ use Rattle.owl_reader.specs.declared.entities.SayFault.{SayFault}
 use Rattle.owl_reader.specs.declared.entities.SayFault.TheVariants as say
 use Rattle.owl_reader.specs.declared.reading.OwlFault.{OwlFault}
 use Rattle.owl_reader.specs.declared.reading.OwlFault.TheVariants as fault
-use Rattle.owl_reader.specs.Tokens.{Lexeme}
-use Rattle.owl_reader.specs.Documents.{Document}
-use Rattle.owl_reader.specs.ItemViews.{item_seen}
+use Rattle.owl_tokens.specs.Tokens.{Lexeme}
+use Rattle.owl_documents.specs.Documents.{Document}
+use Rattle.owl_documents.specs.ItemViews.{item_seen}
 use Rattle.owl_reader.specs.Statements.{Said}
 use Rattle.owl_reader.specs.StatementViews.{Says}
 use Rattle.owl_reader.specs.Reading.{Fault, FaultAt, fault_of, line_of, taken_says, with_lines}

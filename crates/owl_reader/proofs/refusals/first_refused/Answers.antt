@@ -1,8 +1,8 @@
 use Rattle.std.proofs.Common.{sym, ◌∙◌, ap, arith}
 use Rattle.owl_reader.specs.Refusals.{in_item}
-use Rattle.owl_reader.specs.ItemViews.{item_seen}
+use Rattle.owl_documents.specs.ItemViews.{item_seen}
 use Rattle.owl_reader.proofs.RefusalLemmas.{found_here, none_here, none_left}
-use Rattle.owl_reader.specs.declared.items.Item.{Item}
+use Rattle.owl_documents.specs.declared.items.Item.{Item}
 use Rattle.owl_reader.proofs.refusals.first_refused.Goals as goal
 
 pub returns-then-is_some : goal.returns-then-is_some

@@ -1,6 +1,6 @@
 use Rattle.std.proofs.Common.{◌≡◌, ◌-◌, ◌≤◌, ℕ, List, length, drop, map}
 use Rattle.owl_reader.specs.Refusals.{first_of, in_item}
-use Rattle.owl_reader.specs.ItemViews.{item_seen}
+use Rattle.owl_documents.specs.ItemViews.{item_seen}
 use Rattle.owl_reader.proofs.refusals.first_refused.Given as goal
 
 abbrev pub invariant-loop-place : goal.invariant-loop-place

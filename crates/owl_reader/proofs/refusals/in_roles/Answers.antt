@@ -1,6 +1,6 @@
 use Rattle.std.proofs.Common.{sym, ◌∙◌, ap, arith}
 use Rattle.owl_reader.specs.Refusals.{in_role}
-use Rattle.owl_reader.specs.Views.{role_seen}
+use Rattle.owl_documents.specs.Views.{role_seen}
 use Rattle.owl_reader.proofs.RefusalLemmas.{found_here, none_here, none_left, no_role}
 use Rattle.owl_reader.proofs.refusals.in_roles.Goals as goal
 

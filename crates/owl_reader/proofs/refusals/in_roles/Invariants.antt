@@ -1,6 +1,6 @@
 use Rattle.std.proofs.Common.{◌≡◌, ◌-◌, ◌≤◌, ℕ, List, length, drop, map}
 use Rattle.owl_reader.specs.Refusals.{first_of, in_role}
-use Rattle.owl_reader.specs.Views.{role_seen}
+use Rattle.owl_documents.specs.Views.{role_seen}
 use Rattle.owl_reader.proofs.refusals.in_roles.Given as goal
 
 abbrev pub invariant-loop-place : goal.invariant-loop-place

@@ -1,0 +1,3 @@
+pub mod GroupLemmas
+mod ManyLemmas
+mod AnnotationLemmas

@@ -1,0 +1,61 @@
+use Rattle.std.proofs.Common.{◌≡◌, ℕ, ◌+◌, ◌-◌, ◌≤◌, false, length, map, refl, sym, ap, ◌∙◌, arith}
+use Rattle.std.proofs.lemmas.List.{length-map}
+use Rattle.owl_tokens.specs.Tokens.{Lexeme, lexeme}
+use Rattle.owl_documents.specs.Terms.{term_first, role_first}
+use Rattle.owl_documents.specs.Items.{closes, many, up_to_close}
+use Rattle.owl_documents.specs.Views.{role_seen}
+use Rattle.owl_tokens.specs.Tables.{Table}
+use Rattle.owl_documents.proofs.ManyLemmas.{behind_nothing, NeedsTokens, many_ends, loop_next}
+use Rattle.owl_documents.proofs.ManyLemmas.{loop_fails}
+use Rattle.owl_documents.proofs.items.roles_listed.Goals as goal
+
+needs : (known : Table) → NeedsTokens closes (role_first known)
+unfolding role_first term_first
+needs known = record { goes_on = refl; fails = refl }
+
+pub loop-rest-preserved : goal.loop-rest-preserved
+loop-rest-preserved c =
+    let bytes = c.args.bytes.now in
+    let ts = map (lexeme bytes) c.loop-rest.rest.now in
+    let long : length ts ≡ length c.loop-rest.rest.now =
+    length-map c.loop-rest.rest.now (lexeme bytes) in
+    let grown = c.in_ok-push-in-Ok.ensures.items in
+    record {
+      room = omega (
+        arith,
+        c.loop-rest.invariant.room,
+        c.in-Ok.ensures.shorter,
+        c.in_ok-push-in-Ok.ensures.len,
+      );
+      read =
+          loop_next closes (role_first c.args.known.now) (needs c.args.known.now) (role_seen bytes)
+          c.loop-rest.roles.items c.push.new.self.items c.in-Ok.role _
+          (length c.args.tokens.now) ts (map (lexeme bytes) c.in-Ok.next.now)
+          grown (sym (c.closes.ensures bytes) ∙ c.loop-rest-test.true) c.in-Ok.ensures.given
+          (omega (arith, long, c.loop-rest.invariant.room)) c.loop-rest.invariant.read;
+    }
+
+pub returns-in-Err-clause-given : goal.returns-in-Err-clause-given
+returns-in-Err-clause-given c =
+    let bytes = c.args.bytes.now in
+    let ts = map (lexeme bytes) c.loop-rest.rest.now in
+    let long : length ts ≡ length c.loop-rest.rest.now =
+    length-map c.loop-rest.rest.now (lexeme bytes) in
+    loop_fails closes (role_first c.args.known.now) (needs c.args.known.now)
+    (map (role_seen bytes) c.loop-rest.roles.items)
+    (length c.args.tokens.now - length c.loop-rest.roles.items) ts c.in-Err.stop _ _ _
+    (sym (c.closes.ensures bytes) ∙ c.loop-rest-test.true) c.in-Err.ensures.given
+    (omega (arith, long, c.loop-rest.invariant.room)) c.loop-rest.invariant.read
+
+pub returns-clause-given : goal.returns-clause-given
+returns-clause-given c =
+    let bytes = c.args.bytes.now in
+    let ts = map (lexeme bytes) c.loop-rest.rest.now in
+    let long : length ts ≡ length c.loop-rest.rest.now =
+    length-map c.loop-rest.rest.now (lexeme bytes) in
+    c.loop-rest.invariant.read
+    ∙ many_ends closes (role_first c.args.known.now) (needs c.args.known.now)
+    (map (role_seen bytes) c.loop-rest.roles.items)
+    (length c.args.tokens.now - length c.loop-rest.roles.items) ts
+    (sym (c.closes.ensures bytes) ∙ c.loop-rest-test.false)
+    (omega (arith, long, c.loop-rest.invariant.room))

@@ -1,0 +1,4 @@
+mod Lexing
+mod TableLemmas
+pub mod IriLemmas
+mod PrefixLemmas

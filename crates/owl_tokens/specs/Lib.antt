@@ -1,0 +1,5 @@
+pub mod Tokens
+pub mod Tables
+pub mod Iris
+pub mod IriViews
+pub mod Words
