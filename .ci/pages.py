@@ -98,7 +98,7 @@ def lost(page, prose, top):
         elif anchor and anchor not in anchors(to):
             yield f"no such heading: {place}#{anchor}"
     for name in NAMED.findall(prose):
-        if "/out/" not in name and not list(top.glob(name.rstrip("/"))):
+        if not re.search("/out/|NAME", name) and not list(top.glob(name.rstrip("/"))):
             yield f"no such file: {name}"
 
 
