@@ -17,7 +17,7 @@ import sys
 import tempfile
 
 COPIED = ["README.md", "CHANGELOG.md", "crates.txt", ".ci", "contrib", "docs", "examples", "tools"]
-NOT_RUN = re.compile(r"\(cd crates/\w+ && rt |rt |\.ci/run$|\.ci/checks$|apt-get |git clone |cd |#|$")
+NOT_RUN = re.compile(r"parallel -S |\(cd crates/\w+ && rt |rt |\.ci/run$|\.ci/checks$|apt-get |git clone |cd |#|$")
 NAMED = re.compile(r"`((?:crates|docs|examples|tools|contrib|\.ci)/[\w./+*-]*)`")
 LINK = re.compile(r"\]\(([^)#\s]+)?(?:#([\w-]+))?\)")
 MARK = "\x01"
