@@ -69,7 +69,7 @@ def tree(names, pairs):
         if low in names and high in names and low not in parent and low != high and not is_above(parent, low, high):
             parent[low] = high
             below.setdefault(high, []).append(low)
-        else:
+        elif low != high:
             beside.setdefault(low, []).append(high)
     rows = []
 
@@ -96,7 +96,7 @@ def rows_of(ontology):
     rows = []
     placed, beside = tree(ontology.names["concept"], ontology.sub)
     for name, depth in placed:
-        also = f"  (also in {', '.join(beside[name])})" if name in beside else ""
+        also = f" (also in {', '.join(beside[name])})" if name in beside else ""
         rows.append((name + also, depth, "concept", name, None))
         for left, right, filler in ontology.has:
             if left == name:
@@ -104,8 +104,8 @@ def rows_of(ontology):
     placed, beside = tree(ontology.names["role"], [(bare(low), bare(high)) for low, high in ontology.subrole])
     turned = {bare(low) for low, high in ontology.subrole if low.startswith("inv ") != high.startswith("inv ")}
     for name, depth in placed:
-        also = f"  (also in {', '.join(beside[name])})" if name in beside else ""
-        rows.append((("inverse in: " if name in turned else "") + ontology.label(name) + also, depth, "role", name, None))
+        also = f" (also in {', '.join(beside[name])})" if name in beside else ""
+        rows.append((ontology.label(name) + (" (by its inverse)" if name in turned else "") + also, depth, "role", name, None))
         for left, right, filler in ontology.has:
             if left.startswith("some ") and bare(left) == name:
                 rows.append((f"{left[5:]}: {right}", depth + 1, "some", None, filler or bare(right)))
