@@ -1,15 +1,13 @@
 -- The leaves of a query can be rewritten, and its tuples are few.
-use Rattle.std.proofs.Common.{◌≡◌, ℕ, suc, ◌+◌, ◌*◌, ◌^◌, ◌<◌, ◌≤◌, List, [], ◌∷◌, ◌++◌, length}
-use Rattle.std.proofs.Common.{take, drop, get_or, refl, sym, ◌∙◌, ap, subst, arith, inl, inr}
-use Rattle.std.proofs.Common.{append_assoc, append-nil, drop-cons}
+use Rattle.std.proofs.Common.{◌≡◌, ℕ, suc, ◌+◌, ◌^◌, ◌<◌, ◌≤◌, List, [], ◌∷◌, ◌++◌, length}
+use Rattle.std.proofs.Common.{take, drop, get_or, refl, sym, ◌∙◌, ap, subst, arith}
+use Rattle.std.proofs.Common.{append_assoc, append-nil, drop-cons, lit<}
 use Rattle.std.specs.Prelude.{Some, slice_get}
 use Rattle.std.specs.List.{All, AllPairs, Contains}
 use Rattle.std.proofs.lemmas.List.Elements.{All-nil, All-cons, All-contains}
-use Rattle.std.proofs.lemmas.List.Sums.{sum_by-cons}
 use Rattle.std.proofs.Math.Seq.{take-suc}
 use Rattle.std.proofs.lemmas.List.{take-append-drop}
-use Rattle.std.proofs.Math.Nat.{le-mul_of_pos_right, one-le-pow, mul_comm}
-use Rattle.tcq_syntax.proofs.Trees.{children_are_below}
+use Rattle.std.proofs.Math.Nat.{pow-le-pow_left, pow-le-pow_right}
 use Rattle.dl_syntax.specs.declared.queries.Term.{Term}
 use Rattle.dl_syntax.specs.declared.queries.Term.TheVariants.{Var}
 use Rattle.dl_syntax.specs.declared.queries.Atom.{Atom}
@@ -18,13 +16,12 @@ use Rattle.dl_syntax.specs.declared.queries.Cq.{Cq}
 use Rattle.dl_syntax.specs.Declaring.{IsDeclaredAtom}
 use Rattle.dl_syntax.specs.Queries.{IsQuery, IsDeclaredQuery}
 use Rattle.dl_syntax.specs.Ontology.{Declared}
-use Rattle.list_lemmas.proofs.Elements.{AllPairs-tail, AllPairs-head, Contains-none, Contains-first}
-use Rattle.list_lemmas.proofs.Elements.{Contains-later, Contains-cons_cases}
+use Rattle.list_lemmas.proofs.Elements.{AllPairs-tail, AllPairs-head, Contains-first}
+use Rattle.list_lemmas.proofs.Elements.{Contains-later}
 use Rattle.std.proofs.lemmas.List.Elements.{All-weaker}
 use Rattle.tcq_syntax.specs.declared.nodes.Node.{Node}
 use Rattle.tcq_syntax.specs.declared.nodes.Node.TheVariants as node
 use Rattle.tcq_syntax.specs.Tcq.{Tcq, IsTcq, IsLeaf, IsAnswerHead}
-use Rattle.tcq_syntax.specs.Sizes.{units, units_of, most_units, futures}
 use Rattle.tcq_syntax.specs.Within.{HasDeclaredLeaves}
 use Rattle.perfect_ref.specs.Plain.{Encoded, encoded, IsPlain, IsPlainAtom}
 use Rattle.dl_syntax.specs.Encode.{IsQueryOver}
@@ -206,39 +203,12 @@ all_leaves_taken queries k q within is =
 
 -- ---- few tuples
 
-le_times : (a b c : ℕ) → 0 < a → 0 < c → b ≤ a * b * c
-le_times a b c some more =
-    let first : b ≤ b * a = le-mul_of_pos_right b some in
-    let turned : b * a ≡ a * b = mul_comm b a in
-    let later : a * b ≤ a * b * c = le-mul_of_pos_right (a * b) more in
-    omega arith
-
-module _ (individuals : ℕ) where
-  one_of_all : (queries : List Tcq) (query : Tcq) → Contains queries query
-      → units_of individuals query ≤ units individuals queries
-  one_of_all [] query there = absurd (Contains-none query there)
-  one_of_all (q ∷ queries) query there =
-      let whole : units individuals (q ∷ queries)
-      ≡ units_of individuals q + units individuals queries =
-      sum_by-cons (units_of individuals) q queries in
-      elim (Contains-cons_cases q queries query there) [
-        | inl same ↦ (let here : units_of individuals q ≡ units_of individuals query =
-            ap (units_of individuals) same in omega arith)
-        | inr later ↦ (let rest : units_of individuals query ≤ units individuals queries =
-            one_of_all queries query later in omega arith)
-      ]
-
-  -- the tuples of a query are no more than its units
-  pub few_tuples : (queries : List Tcq) (query : Tcq) → Contains queries query
-      → IsTcq query.vars query.nodes → units individuals queries ≤ most_units
-      → individuals ^ query.vars ≤ 2 ^ 60
-  few_tuples queries query there table small =
-      let some : 0 < length query.nodes = (children_are_below query.vars query.nodes table).1 in
-      let sets : 0 < 2 ^ futures query.nodes = one-le-pow (futures query.nodes) 2 (omega arith) in
-      let one : individuals ^ query.vars ≤ units_of individuals query =
-      le_times (length query.nodes) (individuals ^ query.vars) (2 ^ futures query.nodes) some
-      sets in
-      let all : units_of individuals query ≤ units individuals queries =
-      one_of_all queries query there in
-      let most : most_units ≤ 2 ^ 60 = omega arith in
-      omega arith
+-- the tuples of a query over the individuals and a stranger
+pub few_tuples : (slots : ℕ) (query : Tcq) → IsTcq query.vars query.nodes → slots ≤ 4097
+    → slots ^ query.vars ≤ 2 ^ 60
+few_tuples slots query table small =
+    let base : slots ^ query.vars ≤ 4097 ^ query.vars = pow-le-pow_left small query.vars in
+    let power : 4097 ^ query.vars ≤ 4097 ^ 4 =
+    pow-le-pow_right (lit< tt) table.few_variables in
+    let most : 4097 ^ 4 ≤ 2 ^ 60 = omega arith in
+    omega (arith, base, power, most)

@@ -1,9 +1,8 @@
 -- Two copies of the query `once ([Server(?x)] & next [Failed(?x)])` over three concepts, a role and
 -- three individuals.
-use Rattle.std.proofs.Common.{◌≡◌, ℕ, zero, suc, ◌≤◌, ◌*◌, ◌^◌, List, [], ◌∷◌, length, refl, sym}
+use Rattle.std.proofs.Common.{◌≡◌, ℕ, zero, suc, ◌≤◌, List, [], ◌∷◌, length, refl}
 use Rattle.std.proofs.Common.{◌∙◌, ap, subst, arith}
 use Rattle.std.specs.Prelude.{All, Option, Some, None, slice_get, unwrap_or}
-use Rattle.std.specs.List.{sum_by}
 use Rattle.std.proofs.lemmas.Option.{none-some}
 use Rattle.std.proofs.lemmas.List.Elements.{All-nil, All-cons, All-weaker}
 use Rattle.std.proofs.lemmas.List.Sums.{sum_by-le}
@@ -14,13 +13,12 @@ use Rattle.dl_syntax.specs.declared.names.ConceptId.{ConceptId}
 use Rattle.dl_syntax.specs.declared.facts.Element.TheVariants as element
 use Rattle.dl_syntax.specs.declared.facts.Fact.{Fact}
 use Rattle.dl_syntax.specs.declared.facts.Fact.TheVariants as fact
-use Rattle.dl_syntax.specs.declared.queries.Atom.{Atom}
 use Rattle.dl_syntax.specs.declared.queries.Atom.TheVariants as atom
 use Rattle.dl_syntax.specs.declared.queries.Cq.{Cq}
-use Rattle.dl_syntax.specs.declared.queries.Term.TheVariants.{Var, Ind}
+use Rattle.dl_syntax.specs.declared.queries.Term.TheVariants.{Var}
 use Rattle.tcq_syntax.specs.declared.nodes.Node.{Node}
 use Rattle.tcq_syntax.specs.declared.nodes.Node.TheVariants as node
-use Rattle.tcq_syntax.specs.Sizes.{units_of, most_units}
+use Rattle.tcq_syntax.specs.Sizes.{units_of}
 use Rattle.tcq_syntax.specs.Tcq.{Tcq}
 use Rattle.tcq_syntax.specs.Within.{IsDeclaredLeaf, HasDeclaredLeaves, HasDeclaredTerms, AreWithin}
 use Rattle.tcq_syntax.proofs.Example.{server_then_failed}

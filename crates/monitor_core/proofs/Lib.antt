@@ -12,3 +12,4 @@ pub mod Accepting
 pub mod Bounds
 pub mod Sizes
 pub mod Example
+pub mod Widening

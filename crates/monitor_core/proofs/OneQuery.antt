@@ -3,13 +3,12 @@ use Rattle.std.proofs.Common.{◌≡◌, ℕ, zero, suc, ◌+◌, ◌-◌, ◌^�
 use Rattle.std.proofs.Common.{get_or, refl, sym, subst, arith}
 use Rattle.std.specs.Prelude.{Some, slice_get, min, Vec, Result, Ok, Err, IfOk}
 use Rattle.std.specs.Global.{Global}
-use Rattle.std.specs.List.{All, AllZip, Contains}
-use Rattle.std.proofs.lemmas.List.Elements.{All-get_or, Contains-get_or}
+use Rattle.std.specs.List.{All, AllZip}
+use Rattle.std.proofs.lemmas.List.Elements.{All-get_or}
 use Rattle.std.proofs.lemmas.Option.{slice_get_read}
 use Rattle.std.proofs.lemmas.Slice.Zip.{AllZip-long}
 use Rattle.dl_syntax.specs.declared.facts.Fact.{Fact}
 use Rattle.dl_syntax.specs.Rows.{Relation}
-use Rattle.dl_syntax.specs.Ontology.{Declared}
 use Rattle.dl_syntax.specs.declared.ontology.Inclusion.{Inclusion}
 use Rattle.tcq_syntax.specs.Tcq.{Tcq, IsTcq}
 use Rattle.tcq_syntax.specs.Histories.{History, with_snapshot}
@@ -18,6 +17,7 @@ use Rattle.perfect_ref.specs.Plain.{encoded}
 use Rattle.progression.specs.Tables.{leaves_of}
 use Rattle.progression.specs.declared.kept.Kept.{Kept}
 use Rattle.progression.specs.Kept.{Fits, StandsFor, AreRows, AreOverLeaves, AreLeafAnswers}
+use Rattle.progression.specs.Kept.{AreSlotAnswers}
 use Rattle.progression.specs.Kept.{Advances as Steps}
 use Rattle.monitor_core.specs.declared.plan.Plan.{Plan}
 use Rattle.monitor_core.specs.Planning.{IsPlan, ArePlacesOf}
@@ -38,12 +38,11 @@ pub read_in : {X : Type 0} (all other : List X) (k : ℕ) (x : X) → all ≡ ot
     → x ≡ get_or other k x
 read_in {X = X} all other k x same is = subst (λ (xs : List X). x ≡ get_or xs k x) same is
 
-pub fit_at : (o : Declared) (queries : List Tcq) (kept : List Kept) (k : ℕ) (query : Tcq)
-    (one : Kept) → AllFit o queries kept → slice_get queries k ≡ Some query
-    → slice_get kept k ≡ Some one → Fits query (length o.individuals) one
-fit_at o queries kept k query one fit first second =
-    all_zip_at (λ (q : Tcq) (x : Kept). Fits q (length o.individuals) x) queries kept k query one
-    fit first second
+pub fit_at : (slots : ℕ) (queries : List Tcq) (kept : List Kept) (k : ℕ) (query : Tcq)
+    (one : Kept) → AllFit slots queries kept → slice_get queries k ≡ Some query
+    → slice_get kept k ≡ Some one → Fits query slots one
+fit_at slots queries kept k query one fit first second =
+    all_zip_at (λ (q : Tcq) (x : Kept). Fits q slots x) queries kept k query one fit first second
 
 pub if_all_ok : {A E : Type 0} (P Q R S T : A → Type 0) → ((x : A) → P x → Q x → R x → S x → T x)
     → (r : Result A E) → IfOk r P → IfOk r Q → IfOk r R → IfOk r S → IfOk r T
@@ -74,14 +73,9 @@ module _ (plan : Plan) (is : IsPlan plan) (place : ℕ) (within : place < length
           (All-get_or (HasDeclaredLeaves plan.ontology) plan.queries.items place query within
           is.within.declared)
 
-      there : Contains plan.queries.items query
-      there = subst (Contains plan.queries.items) (sym query_is)
-          (Contains-get_or plan.queries.items place query within)
-
       pub few : plan.slots ^ query.vars ≤ 2 ^ 60
-      few = subst (λ (n : ℕ). n ^ query.vars ≤ 2 ^ 60) (sym is.counted)
-          (few_tuples (length plan.ontology.individuals) plan.queries.items query there table
-          is.within.small)
+      few = few_tuples plan.slots query table
+          (omega (arith, is.few_slots, is.sound.few_individuals))
 
       -- what a step says over the slots it says of the plan's ontology
       module _ (facts : List Fact) (relations : List Relation)
@@ -91,32 +85,29 @@ module _ (plan : Plan) (is : IsPlan plan) (place : ℕ) (within : place < length
         over = leaves_over (encoded plan.ontology) plan.sight facts _ relations
             (query_leaves query table) answered
 
-        pub advances : (old new : Kept) (rows : Relation) → Fits query plan.slots new
-            → new.count ≡ min (old.count + 1) (2 ^ 64 - 1) → AreRows query plan.slots rows
+        pub advances : (individuals : ℕ) → individuals ≡ length plan.ontology.individuals
+            → (old new : Kept) (rows : Relation) → Fits query plan.slots new
+            → new.count ≡ min (old.count + 1) (2 ^ 64 - 1) → AreRows query individuals rows
             → ((inclusions : List Inclusion) (history : History) (snapshot : List Fact)
             → StandsFor inclusions plan.slots history query old
             → AreLeafAnswers inclusions snapshot query relations
-            → Steps inclusions plan.slots (with_snapshot snapshot history) query new rows.rows)
-            → Advances plan.ontology plan.sight query facts old new rows
-        advances old new rows fits counted are steps = record {
-          fits = subst (λ (n : ℕ). Fits query n new) is.counted fits;
+            → Steps inclusions (record { kept = plan.slots; answered = individuals })
+            (with_snapshot snapshot history) query new rows.rows)
+            → Advances plan.ontology plan.slots plan.sight query facts old new rows
+        advances individuals individuals_are old new rows fits counted are steps = record {
+          fits = fits;
           counted = counted;
-          rows = subst (λ (n : ℕ). AreRows query n rows) is.counted are;
+          rows = subst (λ (n : ℕ). AreRows query n rows) individuals_are are;
           stands = λ history snapshot over saturated stands.
               let o = plan.ontology in
-              let before : StandsFor o.inclusions plan.slots history query old =
-              subst (λ (n : ℕ). StandsFor o.inclusions n history query old) (sym is.counted)
-              stands in
               let certain : AreLeafAnswers o.inclusions snapshot query relations =
               leaves_certain o plan.sight snapshot facts over saturated _ relations
               (over_leaves o query declared) answered in
-              let step : Steps o.inclusions plan.slots (with_snapshot snapshot history) query new
-              rows.rows = steps o.inclusions history snapshot before certain in
-              let there : Steps o.inclusions (length o.individuals) (with_snapshot snapshot history)
-              query new rows.rows =
-              subst (λ (n : ℕ). Steps o.inclusions n (with_snapshot snapshot history) query new
-              rows.rows) is.counted step in
-              (there.stands, there.answers);
+              let step = steps o.inclusions history snapshot stands certain in (
+                step.stands,
+                subst (λ (n : ℕ). AreSlotAnswers o.inclusions n query
+                    (with_snapshot snapshot history) rows.rows) individuals_are step.answers,
+              );
         }
 
       module _ (places : Vec ℕ Global) (places_is : places

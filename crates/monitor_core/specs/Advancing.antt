@@ -23,26 +23,26 @@ abbrev pub AreSeen : Declared → Sight → List Fact → List Fact → Type 0
 AreSeen ontology sight snapshot facts = (whole : List Fact) × IsSaturated ontology snapshot whole
     × ((f : Fact) → Contains facts f ↔ Seen sight (Contains whole) f)
 
--- what is kept of a query after one more snapshot, from which these facts follow as far as is
--- looked, and the answers then
-pub record Advances (ontology : Declared) (sight : Sight) (query : Tcq) (facts : List Fact)
-    (old new : Kept) (relation : Relation) : Type 0 where
-  pub fits : Fits query (length ontology.individuals) new
+-- what is kept of a query over so many slots after one more snapshot, from which these facts follow
+-- as far as is looked, and the answers then
+pub record Advances (ontology : Declared) (slots : ℕ) (sight : Sight) (query : Tcq)
+    (facts : List Fact) (old new : Kept) (relation : Relation) : Type 0 where
+  pub fits : Fits query slots new
   pub counted : new.count ≡ one_more old.count
   pub rows : AreRows query (length ontology.individuals) relation
   pub stands : (history : History) (snapshot : List Fact) → IsOverOntology ontology snapshot
       → AreSeen ontology sight snapshot facts →
-      StandsFor ontology.inclusions (length ontology.individuals) history query old →
-      StandsFor ontology.inclusions (length ontology.individuals) (with_snapshot snapshot history)
-      query new
+      StandsFor ontology.inclusions slots history query old →
+      StandsFor ontology.inclusions slots (with_snapshot snapshot history) query new
       × AreSlotAnswers ontology.inclusions (length ontology.individuals) query
       (with_snapshot snapshot history) relation.rows
 
 -- that of each query
-abbrev pub AllAdvance : Declared → Sight → List Tcq → List Fact → List Kept → List Kept
+abbrev pub AllAdvance : Declared → ℕ → Sight → List Tcq → List Fact → List Kept → List Kept
     → List Relation → Type 0
-AllAdvance ontology sight [] facts [] [] [] = Unit {0}
-AllAdvance ontology sight (query ∷ queries) facts (old ∷ olds) (new ∷ news) (relation ∷ relations) =
-    Advances ontology sight query facts old new relation
-    × AllAdvance ontology sight queries facts olds news relations
-AllAdvance ontology sight _ facts _ _ _ = ⊥
+AllAdvance ontology slots sight [] facts [] [] [] = Unit {0}
+AllAdvance ontology slots sight (query ∷ queries) facts (old ∷ olds) (new ∷ news) (relation
+    ∷ relations) =
+    Advances ontology slots sight query facts old new relation
+    × AllAdvance ontology slots sight queries facts olds news relations
+AllAdvance ontology slots sight _ facts _ _ _ = ⊥

@@ -1,5 +1,5 @@
 -- The answers of several queries.
-use Rattle.std.specs.Prelude.{◌≡◌, ◌<◌, List, [], ◌∷◌, length}
+use Rattle.std.specs.Prelude.{◌≡◌, ℕ, ◌-◌, ◌<◌, List, [], ◌∷◌, length}
 use Rattle.std.specs.List.{All}
 use Rattle.dl_syntax.specs.declared.facts.Element.{Element}
 use Rattle.dl_syntax.specs.declared.facts.Element.TheVariants.{Ind, Null}
@@ -35,11 +35,15 @@ AreRowsOf ontology (query ∷ queries) (relation ∷ relations) =
     × All (IsRow (length ontology.individuals) query.vars) relation.rows
     × AreRowsOf ontology queries relations
 
--- for each query its answers after the history
+-- how many individuals there are without those that came with the history
+abbrev pub own_count : Declared → History → ℕ
+own_count ontology history = length ontology.individuals - length history.names
+
+-- for each query its answers after the history, whose names the ontology has
 abbrev pub AreAllAnswers : Declared → List Tcq → History → List Relation → Type 0
 AreAllAnswers ontology [] history [] = Unit {0}
 AreAllAnswers ontology [] history (relation ∷ relations) = ⊥
 AreAllAnswers ontology (query ∷ queries) history [] = ⊥
 AreAllAnswers ontology (query ∷ queries) history (relation ∷ relations) =
-    AreAnswers ontology.inclusions (length ontology.individuals) query history relation.rows
+    AreAnswers ontology.inclusions (own_count ontology history) query history relation.rows
     × AreAllAnswers ontology queries history relations

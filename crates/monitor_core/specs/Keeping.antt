@@ -1,7 +1,7 @@
 -- What a monitor keeps from one snapshot to the next.
-use Rattle.std.specs.Prelude.{◌≡◌, ◌↔◌, ◌⊎◌, ℕ, true, List, [], ◌∷◌, length}
+use Rattle.std.specs.Prelude.{◌≡◌, ◌↔◌, ◌⊎◌, ℕ, ◌+◌, ◌≤◌, if◌then◌else◌, Bool, false, List, []}
+use Rattle.std.specs.Prelude.{◌∷◌, length}
 use Rattle.std.specs.List.{All, AllZip, Contains, sum_by}
-use Rattle.dl_syntax.specs.Ontology.{Declared}
 use Rattle.dl_syntax.specs.declared.ontology.Inclusion.{Inclusion}
 use Rattle.tcq_syntax.specs.Histories.{empty_history}
 use Rattle.tcq_syntax.specs.Tcq.{Tcq}
@@ -48,27 +48,35 @@ pub record IsState (state : State) : Type 0 where
   pub counts : AreCounted state
   pub stored : IsStoreOf state.kept.items state.store
 
--- what is kept of each query fits it
-abbrev pub AllFit : Declared → List Tcq → List Kept → Type 0
-AllFit ontology queries kept =
-    AllZip (λ query k. Fits query (length ontology.individuals) k) queries kept
+-- what is kept of each query over so many slots fits it
+abbrev pub AllFit : ℕ → List Tcq → List Kept → Type 0
+AllFit slots queries kept = AllZip (λ query k. Fits query slots k) queries kept
 
--- what a monitor watches and what it keeps
+-- what a monitor watches and what it keeps, whether further names may come with the stream, and
+-- how many came
 pub record Monitored : Type 0 where
   pub plan : Plan
   pub state : State
+  pub strangers : Bool
+  pub declared : ℕ
 
+-- the last individuals are those that came with the stream, and there is one slot more for the
+-- stranger, which stands for all that may still come
 pub record IsMonitored (m : Monitored) : Type 0 where
   pub plan : IsPlan m.plan
   pub state : IsState m.state
-  pub fits : AllFit m.plan.ontology m.plan.queries.items m.state.kept.items
+  pub fits : AllFit m.plan.slots m.plan.queries.items m.state.kept.items
+  pub slots : m.plan.slots
+      ≡ length m.plan.ontology.individuals + (if m.strangers then 1 else 0)
+  pub came : m.declared ≤ length m.plan.ontology.individuals
+  pub closed : m.strangers ≡ false → m.declared ≡ 0
 
 -- before any snapshot nothing is kept of a query
 pub record IsFresh (query : Tcq) (kept : Kept) : Type 0 where
   pub counted : kept.count ≡ 0
   pub fits : (slots : ℕ) → Fits query slots kept
-  pub stands : (inclusions : List Inclusion) (slots : ℕ)
-      → StandsFor inclusions slots (empty_history true) query kept
+  pub stands : (inclusions : List Inclusion) (slots : ℕ) (closed : Bool)
+      → StandsFor inclusions slots (empty_history closed) query kept
 
 abbrev pub AllFresh : List Tcq → List Kept → Type 0
 AllFresh queries kept = AllZip IsFresh queries kept

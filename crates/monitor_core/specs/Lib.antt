@@ -5,4 +5,5 @@ pub mod Opening
 pub mod Leaves
 pub mod Keeping
 pub mod Advancing
+pub mod Widening
 pub mod Standing

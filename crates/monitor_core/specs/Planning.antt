@@ -1,5 +1,5 @@
 -- What a monitor computes of its ontology and its queries before the first snapshot.
-use Rattle.std.specs.Prelude.{◌≡◌, ◌≤◌, ℕ, Some, List, length, slice_get, Vec}
+use Rattle.std.specs.Prelude.{◌≡◌, ◌≤◌, ℕ, ◌+◌, Some, List, length, slice_get, Vec}
 use Rattle.std.specs.Global.{Global}
 use Rattle.std.specs.List.{All, AllZip}
 use Rattle.dl_syntax.specs.Ontology.{IsOntology}
@@ -73,7 +73,8 @@ pub record IsPlan (plan : Plan) : Type 0 where
   pub sound : IsOntology plan.ontology
   pub tables : AreTables plan.queries.items
   pub within : AreWithin plan.ontology plan.queries.items
-  pub counted : plan.slots ≡ length plan.ontology.individuals
+  pub counted : length plan.ontology.individuals ≤ plan.slots
+  pub few_slots : plan.slots ≤ length plan.ontology.individuals + 1
   pub leaves : AreLeaves (encoded plan.ontology) plan.leaves.items
   pub places : AreAllPlaces (encoded plan.ontology) plan.leaves.items plan.queries.items
       plan.places.items

@@ -9,7 +9,7 @@ ghost use Rattle.progression.specs.Kept.{Fits};
 ghost use Rattle.monitor_core.specs.Answering.{AreOver};
 ghost use Rattle.monitor_core.specs.Planning.{IsPlan};
 ghost use Rattle.monitor_core.specs.Leaves.{AreUnionAnswers, AreLeafRelations};
-ghost use Rattle.monitor_core.specs.Keeping.{AllFit, AreCounted, IsMonitored};
+ghost use Rattle.monitor_core.specs.Keeping.{AllFit, AreCounted, IsState};
 ghost use Rattle.monitor_core.specs.Advancing.{one_more, AreSeen, Advances, AllAdvance};
 ghost use Rattle.monitor_core.specs.Standing.{IsNext, Takes, AreRowsIn, IsConsistentIn};
 ghost use Rattle.monitor_core.specs.Standing.{IsLeastIn, setting_of};
@@ -21,10 +21,10 @@ use crate::plan::Plan;
 use crate::state::{State, state_of};
 use answer_tables::Made;
 use consistency::first_clash_closed;
-use dl_syntax::{Memory, Snapshot, Tuples};
+use dl_syntax::{Kind, Memory, Snapshot, Tuples};
 use fact_index::{Index, build};
 use formula_store::Store;
-use progression::{Kept, advance};
+use progression::{Kept, Slots, advance};
 use std::alloc::Global;
 use std::mem::replace;
 
@@ -86,17 +86,22 @@ impl Plan {
         requires relations { AreLeafRelations self.now.leaves.items moment.now.relations.now }
         requires within { place < length self.now.queries.items }
         requires fits { (query : Tcq) → slice_get self.now.queries.items place ≡ Some query →
-            Fits query (length self.now.ontology.individuals) kept.now }
+            Fits query self.now.slots kept.now }
         ensures { IfOk result (λ r. (facts : List Fact) (query : Tcq) →
             AllZip (AreUnionAnswers facts) self.now.leaves.items moment.now.relations.now →
             slice_get self.now.queries.items place ≡ Some query →
-            Advances self.now.ontology self.now.sight query facts kept.now r.0 r.1) }
+            Advances self.now.ontology self.now.slots self.now.sight query facts kept.now r.0
+            r.1) }
     {
         let alloc = moment.alloc;
         let query = &self.queries[place];
         let places = self.places.as_slice();
         let leaves = relations_at(alloc, moment.relations, places[place].as_slice())?;
-        let slots = self.slots;
+        let individuals = self.ontology.count(Kind::Individual);
+        let slots = Slots {
+            kept: self.slots,
+            answered: individuals,
+        };
         let mut known = take_made(alloc, made, place);
         let asked = leaves.as_slice();
         let next = advance(alloc, query, slots, kept, asked, &mut known, store);
@@ -114,10 +119,10 @@ impl Plan {
         made: &mut Vec<Made>,
     ) -> Result<Advanced, Memory>
         requires plan { IsPlan self.now }
-        requires fits { AllFit self.now.ontology self.now.queries.items kept.now }
+        requires fits { AllFit self.now.slots self.now.queries.items kept.now }
         ensures { IfOk result (λ a.
-            AllAdvance self.now.ontology self.now.sight self.now.queries.items facts.now kept.now
-            a.kept.items a.answers.items) }
+            AllAdvance self.now.ontology self.now.slots self.now.sight self.now.queries.items
+            facts.now kept.now a.kept.items a.answers.items) }
     {
         let relations = leaf_answers(alloc, facts, self.leaves.as_slice())?;
         let mut store = Store::new(alloc);
@@ -144,9 +149,10 @@ impl Plan {
         facts: &Index,
         made: &mut Vec<Made>,
     ) -> Result<(State, Vec<Tuples>), Memory>
-        requires { IsMonitored (record { plan = self.now; state = state.now }) }
-        ensures { IfOk result (λ r.
-            IsNext (record { plan = self.now; state = state.now }) facts.now r.0 r.1.items) }
+        requires plan { IsPlan self.now }
+        requires state { IsState state.now }
+        requires fits { AllFit self.now.slots self.now.queries.items state.now.kept.items }
+        ensures { IfOk result (λ r. IsNext self.now state.now facts.now r.0 r.1.items) }
     {
         let advanced = self.advanced(alloc, state.kept.as_slice(), facts, made)?;
         let Advanced { kept, answers } = advanced;
@@ -158,12 +164,15 @@ impl Plan {
 
 impl Monitor {
     /// Takes the next snapshot, and gives the answers of each query then. It is counted, as far as
-    /// numbers go. A snapshot that is inconsistent is refused with the least clash that it meets. A
-    /// refused snapshot changes nothing.
+    /// numbers go. The answers are tuples of individuals: none has the stranger, which stands for
+    /// names that may still come. A snapshot that is inconsistent is refused with the least clash
+    /// that it meets. A refused snapshot changes nothing.
     pub fn accept(&mut self, alloc: Global, snapshot: &Snapshot) -> Result<Vec<Tuples>, AcceptFault>
         requires { AreOver (setting_of self.old).ontology snapshot.now }
         ensures plan { self.new.plan ≡ self.old.plan }
         ensures setting { setting_of self.new ≡ setting_of self.old }
+        ensures strangers { self.new.strangers ≡ self.old.strangers }
+        ensures declared { self.new.declared ≡ self.old.declared }
         ensures counted { OnOk result (self.new.state.count ≡ one_more self.old.state.count) }
         ensures each { AreCounted self.new.state }
         ensures rows { IfOk result (λ answers. AreRowsIn (setting_of self.old) answers.items) }

@@ -1,6 +1,9 @@
 //! A monitor before any snapshot.
 
-ghost use Rattle.std.specs.Prelude.{◌≡◌, Err, IfOk, OnOk};
+ghost use Rattle.std.specs.Prelude.{◌≡◌, ◌+◌, ◌≤◌, if◌then◌else◌, not, false, length};
+ghost use Rattle.std.specs.Prelude.{Err, IfOk, OnOk};
+ghost use Rattle.dl_syntax.specs.Ontology.{IsOntology};
+ghost use Rattle.tcq_syntax.specs.Histories.{empty_history};
 ghost use Rattle.tcq_syntax.specs.Within.{AreWithin};
 ghost use Rattle.monitor_core.specs.Planning.{SeesLeaves, SeesClashes, IsPlan};
 ghost use Rattle.saturate.specs.Sight.{KeepsSight};
@@ -63,17 +66,31 @@ fn sight_of(alloc: Global, leaves: &[Leaf], clashes: &Clashes) -> Result<Sight, 
     Ok(sight)
 }
 
-/// The plan for the queries under the ontology.
+/// The individuals, and where names may come the stranger.
+fn slots_for(ontology: &Ontology, strangers: bool) -> u32
+    ensures slots { result ≡ length ontology.now.individuals + (if strangers then 1 else 0) }
+    ensures least { length ontology.now.individuals ≤ result }
+    ensures most { result ≤ length ontology.now.individuals + 1 }
+    ensures sound { IsOntology ontology.now }
+{
+    let count = ontology.count(Kind::Individual);
+    if strangers { count + 1 } else { count }
+}
+
+/// The plan for the queries under the ontology, with a slot for the stranger where names may come.
 fn plan_of(
     alloc: Global,
     ontology: Ontology,
     queries: Vec<Query>,
     room: u32,
+    strangers: bool,
 ) -> Result<Plan, RewriteFault>
     requires { AreWithin ontology queries.items }
     ensures plan { IfOk result IsPlan }
     ensures ontology { IfOk result (λ plan. plan.ontology ≡ ontology) }
     ensures queries { IfOk result (λ plan. plan.queries ≡ queries) }
+    ensures slots { IfOk result (λ plan.
+        plan.slots ≡ length ontology.individuals + (if strangers then 1 else 0)) }
     ensures within { IfOk result (λ _. HasMoreRewritings ontology queries.items room → ⊥) }
     ensures many { result ≡ Err RewriteFault.TooManyRewritings →
         HasMoreRewritings ontology queries.items room }
@@ -95,7 +112,7 @@ fn plan_of(
         Ok(sight) => sight,
         Err(_) => return Err(RewriteFault::Memory),
     };
-    let slots = ontology.count(Kind::Individual);
+    let slots = slots_for(&ontology, strangers);
     Ok(Plan {
         ontology,
         queries,
@@ -137,9 +154,60 @@ pub fn check_reach(
     }
 }
 
-/// The monitor of these queries under the ontology, before any snapshot. The refusals are those of
-/// `check_reach`.
+/// The monitor of these queries under the ontology, before any snapshot and any name.
+fn opened(
+    alloc: Global,
+    ontology: Ontology,
+    queries: Vec<Query>,
+    room: u32,
+    strangers: bool,
+) -> Result<Monitor, RewriteFault>
+    requires { AreWithin ontology queries.items }
+    ensures stands { IfOk result (λ monitor. Stands monitor (empty_history (not strangers))) }
+    ensures setting { IfOk result (λ monitor.
+        setting_of monitor ≡ record { ontology = ontology; queries = queries.items }) }
+    ensures within { IfOk result (λ _. HasMoreRewritings ontology queries.items room → ⊥) }
+    ensures many { result ≡ Err RewriteFault.TooManyRewritings →
+        HasMoreRewritings ontology queries.items room }
+{
+    let plan = match plan_of(alloc, ontology, queries, room, strangers) {
+        Ok(plan) => plan,
+        Err(fault) => return Err(fault),
+    };
+    let made = Vec::new(alloc);
+    match first_state(alloc, plan.queries.as_slice()) {
+        Ok(state) => Ok(Monitor {
+            plan,
+            state,
+            strangers,
+            declared: 0,
+            made,
+        }),
+        Err(_) => Err(RewriteFault::Memory),
+    }
+}
+
+/// The monitor of these queries under the ontology, before any snapshot and any name, where names
+/// may come. The refusals are those of `check_reach`.
 pub fn open(
+    alloc: Global,
+    ontology: Ontology,
+    queries: Vec<Query>,
+    room: u32,
+) -> Result<Monitor, RewriteFault>
+    requires { AreWithin ontology queries.items }
+    ensures stands { IfOk result (λ monitor. Stands monitor (empty_history false)) }
+    ensures setting { IfOk result (λ monitor.
+        setting_of monitor ≡ record { ontology = ontology; queries = queries.items }) }
+    ensures within { IfOk result (λ _. HasMoreRewritings ontology queries.items room → ⊥) }
+    ensures many { result ≡ Err RewriteFault.TooManyRewritings →
+        HasMoreRewritings ontology queries.items room }
+{
+    opened(alloc, ontology, queries, room, true)
+}
+
+/// The same where no name may come.
+pub fn open_closed(
     alloc: Global,
     ontology: Ontology,
     queries: Vec<Query>,
@@ -153,13 +221,5 @@ pub fn open(
     ensures many { result ≡ Err RewriteFault.TooManyRewritings →
         HasMoreRewritings ontology queries.items room }
 {
-    let plan = match plan_of(alloc, ontology, queries, room) {
-        Ok(plan) => plan,
-        Err(fault) => return Err(fault),
-    };
-    let made = Vec::new(alloc);
-    match first_state(alloc, plan.queries.as_slice()) {
-        Ok(state) => Ok(Monitor { plan, state, made }),
-        Err(_) => Err(RewriteFault::Memory),
-    }
+    opened(alloc, ontology, queries, room, false)
 }

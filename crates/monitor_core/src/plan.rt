@@ -23,7 +23,7 @@ pub struct Leaf {
 pub struct Plan {
     pub ontology: Ontology,
     pub queries: Vec<Query>,
-    /// How many individuals there are.
+    /// The individuals, and where names may still come the stranger, which stands for all of them.
     pub slots: u32,
     /// The leaves of all queries, where those that ask the same are kept once.
     pub leaves: Vec<Leaf>,

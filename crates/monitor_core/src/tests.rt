@@ -1,12 +1,13 @@
 //! Who was a server at some snapshot and failed at the next one, over three individuals.
 ghost use Rattle.std.specs.Prelude.{◌≡◌, ◌≤◌, ◌∷◌, [], All, IfOk, IfSome, length};
 ghost use Rattle.dl_syntax.specs.Laws.{instances};
+ghost use Rattle.dl_syntax.specs.Names.{IsDeclarable};
 ghost use Rattle.dl_syntax.specs.declared.facts.Element.TheVariants as element;
 ghost use Rattle.dl_syntax.specs.declared.facts.Fact.TheVariants as fact;
 ghost use Rattle.tcq_syntax.proofs.Example.{server_then_failed};
 ghost use Rattle.monitor_core.specs.Standing.{setting_of};
 
-use crate::{Monitor, open};
+use crate::{DeclareFault, Monitor, open};
 use dl_syntax::{
     Atom, Basic, Clash, ConceptId, Cq, Element, Fact, Inclusion, IndId, Items, Kind, Memory, Name,
     Ontology, Role, RoleId, Snapshot, Term,
@@ -198,6 +199,38 @@ fn keeps(alloc: Global, monitor: &Monitor, size: u64) -> bool
     monitor.held() == size
         && monitor.kept_size(alloc, 0) == Ok(size)
         && monitor.kept_size(alloc, 1) == Ok(size)
+}
+
+// The name `s3`.
+fn third_server(alloc: Global) -> Result<Name, Memory>
+    ensures { IfOk result IsDeclarable }
+{
+    Name::new(alloc, b"s3")
+}
+
+// Declares the name `s3`.
+fn declare_third(alloc: Global, monitor: &mut Monitor) -> Result<(), DeclareFault> {
+    let name = third_server(alloc)?;
+    monitor.declare(alloc, &[name])
+}
+
+#[test]
+fn declares_a_third_server(rt: HostRuntime) {
+    let mut monitor = watching(rt.alloc()).expect(&rt, "memory");
+    assert!(rt; declare_third(rt.alloc(), &mut monitor) == Ok(()));
+    assert!(rt; monitor.ontology().count(Kind::Individual) == 4);
+    assert!(rt; monitor.declared() == 1);
+    assert!(rt; monitor.has_strangers());
+}
+
+#[test]
+fn declares_no_name_twice(rt: HostRuntime) {
+    let mut monitor = watching(rt.alloc()).expect(&rt, "memory");
+    assert!(rt; declare_third(rt.alloc(), &mut monitor) == Ok(()));
+    let twice = declare_third(rt.alloc(), &mut monitor);
+    assert!(rt; twice == Err(DeclareFault::NameTwice(0)));
+    assert!(rt; monitor.declared() == 1);
+    assert!(rt; monitor.count() == 0);
 }
 
 #[test]

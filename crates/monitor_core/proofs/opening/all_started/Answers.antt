@@ -21,5 +21,6 @@ loop-query-preserved c =
       fits =
           c.start.ensures.fits c._query-item.result;
       stands =
-          λ inclusions slots. c.start.ensures.stands inclusions slots c._query-item.result true;
+          λ inclusions slots closed.
+          c.start.ensures.stands inclusions slots c._query-item.result closed;
     })))

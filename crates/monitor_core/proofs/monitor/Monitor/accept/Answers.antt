@@ -34,8 +34,13 @@ returns-in-Some-clause-contradiction c = λ number is.
     (subst (IsFirstClash o c.args.snapshot.now) c.in-Some.is
     (c.in_ok-number.ensures c.self.inside.plan.ontology c.args.snapshot.now
     c.in_ok-facts.ensures.0 c.self.invariant.plan.clashes_for
-    (over_setting c.self.inside.plan c.self.inside.state c.args.self.now c.args.snapshot.now
-    c.self.view_is c.self.invariant c.requires) c.in_ok-facts.ensures.1
+    (over_setting (record {
+      plan = c.self.inside.plan;
+      state = c.self.inside.state;
+      strangers = c.self.inside.strangers;
+      declared = c.self.inside.declared;
+    }) c.args.self.now c.args.snapshot.now c.self.view_is
+    c.self.invariant c.requires).1 c.in_ok-facts.ensures.1
     (agree_on_clashes c.self.inside.plan.sight c.in_ok-facts.ensures.0 c.in_ok-facts.facts
     c.in_ok-facts.ensures.2 c.self.inside.plan.clashes c.self.invariant.plan.sees_clashes))) in
     subst (λ (m : Monitored). IsLeastClash (setting_of m).ontology c.args.snapshot.now number)
@@ -47,13 +52,20 @@ invariant_of-self c = c.self.invariant
 pub invariant_of-self-2 : goal.invariant_of-self-2
 invariant_of-self-2 c = still_monitored (record {
   plan = c.self.inside.plan;
-  state =
-      c.self.inside.state;
+  state = c.self.inside.state;
+  strangers = c.self.inside.strangers;
+  declared = c.self.inside.declared;
 }) c.in_ok-facts.facts c.in_ok-state.state c.in_ok-state.answers.items
     c.in_ok-state.ensures c.self.invariant
 
 pub returns-clause-plan : goal.returns-clause-plan
 returns-clause-plan c = ap (λ (m : Monitored). m.plan) c.self.view_is
+
+pub returns-clause-strangers : goal.returns-clause-strangers
+returns-clause-strangers c = ap (λ (m : Monitored). m.strangers) c.self.view_is
+
+pub returns-clause-declared : goal.returns-clause-declared
+returns-clause-declared c = ap (λ (m : Monitored). m.declared) c.self.view_is
 
 pub returns-clause-counted : goal.returns-clause-counted
 returns-clause-counted c = subst (λ (m : Monitored). c.in_ok-state.state.count
@@ -69,8 +81,9 @@ returns-clause-rows c =
     c.in_ok-state.answers.items) c.self.view_is
     (next_rows (record {
       plan = c.self.inside.plan;
-      state =
-          c.self.inside.state;
+      state = c.self.inside.state;
+      strangers = c.self.inside.strangers;
+      declared = c.self.inside.declared;
     }) c.in_ok-facts.facts c.in_ok-state.state c.in_ok-state.answers.items
     c.in_ok-state.ensures)
 
@@ -83,8 +96,13 @@ returns-clause-consistent c =
     c.in_default.not-Some number is)
     (c.in_ok-number.ensures c.self.inside.plan.ontology c.args.snapshot.now
     c.in_ok-facts.ensures.0 c.self.invariant.plan.clashes_for
-    (over_setting c.self.inside.plan c.self.inside.state c.args.self.now c.args.snapshot.now
-    c.self.view_is c.self.invariant c.requires) c.in_ok-facts.ensures.1
+    (over_setting (record {
+      plan = c.self.inside.plan;
+      state = c.self.inside.state;
+      strangers = c.self.inside.strangers;
+      declared = c.self.inside.declared;
+    }) c.args.self.now c.args.snapshot.now c.self.view_is
+    c.self.invariant c.requires).1 c.in_ok-facts.ensures.1
     (agree_on_clashes c.self.inside.plan.sight c.in_ok-facts.ensures.0 c.in_ok-facts.facts
     c.in_ok-facts.ensures.2 c.self.inside.plan.clashes c.self.invariant.plan.sees_clashes)))
 
@@ -92,22 +110,36 @@ pub returns-clause-ok : goal.returns-clause-ok
 returns-clause-ok c = λ history stands.
     let before : Stands (record {
       plan = c.self.inside.plan;
-      state =
-          c.self.inside.state;
+      state = c.self.inside.state;
+      strangers = c.self.inside.strangers;
+      declared = c.self.inside.declared;
     }) history =
     subst (λ (m : Monitored). Stands m history) (sym c.self.view_is) stands in
     subst (λ (m : Monitored). Accepts m (after (record {
       plan = c.self.inside.plan;
-      state =
-          c.self.inside.state;
+      state = c.self.inside.state;
+      strangers = c.self.inside.strangers;
+      declared = c.self.inside.declared;
     }) c.in_ok-facts.facts c.in_ok-state.state c.in_ok-state.answers.items
     c.in_ok-state.ensures) c.args.snapshot.now c.in_ok-state.answers.items history)
     c.self.view_is
     (accepts (record {
       plan = c.self.inside.plan;
-      state =
-          c.self.inside.state;
+      state = c.self.inside.state;
+      strangers = c.self.inside.strangers;
+      declared = c.self.inside.declared;
     }) c.in_ok-facts.facts c.in_ok-state.state c.in_ok-state.answers.items
     c.in_ok-state.ensures c.args.snapshot.now history
-    (over_setting c.self.inside.plan c.self.inside.state c.args.self.now c.args.snapshot.now
-    c.self.view_is c.self.invariant c.requires) c.in_ok-facts.ensures before)
+    (over_setting (record {
+      plan = c.self.inside.plan;
+      state = c.self.inside.state;
+      strangers = c.self.inside.strangers;
+      declared = c.self.inside.declared;
+    }) c.args.self.now c.args.snapshot.now c.self.view_is
+    c.self.invariant c.requires).0 (over_setting (record {
+      plan = c.self.inside.plan;
+      state = c.self.inside.state;
+      strangers = c.self.inside.strangers;
+      declared = c.self.inside.declared;
+    }) c.args.self.now c.args.snapshot.now c.self.view_is
+    c.self.invariant c.requires).1 c.in_ok-facts.ensures before)

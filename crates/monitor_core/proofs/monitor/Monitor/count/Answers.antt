@@ -7,6 +7,5 @@ pub returns-clause-state : goal.returns-clause-state
 returns-clause-state c = ap (λ (m : Monitored). m.state.count) c.self.view_is
 
 pub returns-clause-history : goal.returns-clause-history
-unfolding Stands
 returns-clause-history c = λ history stands.
-    (subst (λ (m : Monitored). Stands m history) (sym c.self.view_is) stands).0
+    (subst (λ (m : Monitored). Stands m history) (sym c.self.view_is) stands).counted

@@ -9,8 +9,9 @@ returns-clause-kept c =
     subst (λ (m : Monitored). HoldsSize m c.set_count.result) c.self.view_is
     (λ history stands. held_size (record {
       plan = c.self.inside.plan;
-      state =
-          c.self.inside.state;
+      state = c.self.inside.state;
+      strangers = c.self.inside.strangers;
+      declared = c.self.inside.declared;
     }) history c.set_count.result c.self.invariant c.set_count.ensures.total
     stands)
 
@@ -19,7 +20,8 @@ returns-clause-few c =
     subst (λ (m : Monitored). c.set_count.result ≤ units_in (setting_of m)) c.self.view_is
     (held_few (record {
       plan = c.self.inside.plan;
-      state =
-          c.self.inside.state;
+      state = c.self.inside.state;
+      strangers = c.self.inside.strangers;
+      declared = c.self.inside.declared;
     }) c.set_count.result c.self.invariant c.set_count.ensures.total
     c.set_count.ensures.antichains)

@@ -13,8 +13,9 @@ pub offset_bounds-kept-place : goal.offset_bounds-kept-place
 offset_bounds-kept-place c =
     let few = few_kept (record {
       plan = c.self.inside.plan;
-      state =
-          c.self.inside.state;
+      state = c.self.inside.state;
+      strangers = c.self.inside.strangers;
+      declared = c.self.inside.declared;
     }) c.args.place c.self.invariant
     (subst (λ (m : Monitored). c.args.place < length (setting_of m).queries)
     (sym c.self.view_is) c.requires) in
@@ -24,15 +25,21 @@ pub bounds-kept-place : goal.bounds-kept-place
 bounds-kept-place c =
     let few = few_kept (record {
       plan = c.self.inside.plan;
-      state =
-          c.self.inside.state;
+      state = c.self.inside.state;
+      strangers = c.self.inside.strangers;
+      declared = c.self.inside.declared;
     }) c.args.place c.self.invariant
     (subst (λ (m : Monitored). c.args.place < length (setting_of m).queries)
     (sym c.self.view_is) c.requires) in
     subst (λ (ks : List Kept). c.args.place < length ks) (sym c.as_slice-kept.ensures.value) few.1
 
 abbrev watched : goal.After-set_count_of → Monitored
-watched c = record { plan = c.self.inside.plan; state = c.self.inside.state }
+watched c = record {
+  plan = c.self.inside.plan;
+  state = c.self.inside.state;
+  strangers = c.self.inside.strangers;
+  declared = c.self.inside.declared;
+}
 
 there : (c : goal.After-set_count_of)
     → slice_get c.self.inside.state.kept.items c.args.place ≡ Some c.index-kept-place.result

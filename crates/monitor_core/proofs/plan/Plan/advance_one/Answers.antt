@@ -1,9 +1,9 @@
-use Rattle.std.proofs.Common.{◌≡◌, ◌<◌, ℕ, List, length, sym, subst}
+use Rattle.std.proofs.Common.{◌≡◌, ◌<◌, ℕ, List, length, sym, subst, arith}
 use Rattle.std.specs.Prelude.{Some, slice_get, Vec}
 use Rattle.std.specs.Global.{Global}
 use Rattle.std.specs.List.{All, AllZip}
 use Rattle.tcq_syntax.specs.Tcq.{Tcq}
-use Rattle.progression.specs.Kept.{Fits, AreOverLeaves}
+use Rattle.progression.specs.Kept.{AreOverLeaves}
 use Rattle.monitor_core.specs.Leaves.{StandsAt}
 use Rattle.monitor_core.specs.Advancing.{Advances}
 use Rattle.monitor_core.proofs.OneQuery.{has_places, read_in, query_at, few, over, advances}
@@ -27,10 +27,13 @@ relations_at-requires c =
 
 pub advance-next-requires-clause-fits : goal.advance-next-requires-clause-fits
 advance-next-requires-clause-fits c =
-    subst (λ n. Fits c.index-query.result.now n c.args.kept.now) (sym c.requires.plan.counted)
-    (c.requires.fits c.index-query.result.now
+    c.requires.fits c.index-query.result.now
     (query_at c.args.self.now c.requires.plan c.args.place c.requires.within
-    c.index-query.result.now c.index-query.ensures))
+    c.index-query.result.now c.index-query.ensures)
+
+pub advance-next-requires-clause-within : goal.advance-next-requires-clause-within
+advance-next-requires-clause-within c =
+    omega (arith, c.requires.plan.counted, c.count-individuals.ensures.count)
 
 pub advance-next-requires-clause-few : goal.advance-next-requires-clause-few
 advance-next-requires-clause-few c =
@@ -71,13 +74,15 @@ returns c =
     let at : slice_get plan.queries.items c.args.place ≡ Some query =
     query_at plan c.requires.plan c.args.place c.requires.within query c.index-query.ensures in
     let same : query ≡ other = cc in
-    subst (λ (q : Tcq). Advances plan.ontology plan.sight q facts c.args.kept.now r.0 r.1) same
+    subst (λ (q : Tcq). Advances plan.ontology plan.slots plan.sight q facts c.args.kept.now r.0
+    r.1) same
     (advances plan c.requires.plan c.args.place c.requires.within query c.index-query.ensures facts
     found
     (answered_at plan c.requires.plan c.args.place c.requires.within query c.index-query.ensures
     c.index-places-place.result (read_in c.as_slice-places.result.now plan.places.items
     c.args.place c.index-places-place.result c.as_slice-places.ensures.value
     c.index-places-place.is) facts c.args.moment.now.relations.now found answers stand)
-    c.args.kept.now r.0 r.1 fits counted rows steps))
+    c.count-individuals.result c.count-individuals.ensures.count c.args.kept.now r.0 r.1 fits
+    counted rows steps))
     c.advance-next.result c.advance-next.ensures.fits c.advance-next.ensures.count
     c.advance-next.ensures.rows c.advance-next.ensures.advances
