@@ -43,7 +43,7 @@ impl<T: Drop> From<AllocFailed<T>> for Stop {
 
 /// What a token in a group does.
 #[derive(Clone, Copy, Debug)]
-pub(crate) enum GroupStep {
+pub enum GroupStep {
     /// The group goes on, so many groups deep in it.
     Inside(usize),
     /// The group ends.

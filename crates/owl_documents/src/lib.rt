@@ -7,6 +7,6 @@ mod items;
 mod terms;
 
 pub use documents::{Document, document_read};
-pub use groups::Stop;
+pub use groups::{GroupStep, Stop};
 pub use items::{Axiom, Item, ItemShape, Shape};
 pub use terms::{Class, Entity, Role};

@@ -1,0 +1,5 @@
+mod Marks
+mod Terms
+mod Lengths
+mod Items
+mod Documents
