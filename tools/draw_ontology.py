@@ -118,15 +118,16 @@ def bare(words):
 
 
 def lanes(spans):
-    """For each span the least lane in which it meets no earlier one."""
-    taken, found = [], []
-    for low, high in spans:
-        lane = next((at for at, used in enumerate(taken) if all(high < a or b < low for a, b in used)), len(taken))
+    """For each span a lane in which it meets no other: the shorter it is, the nearer."""
+    taken, found = [], {}
+    for at in sorted(range(len(spans)), key=lambda at: spans[at][1] - spans[at][0]):
+        low, high = spans[at]
+        lane = next((lane for lane, used in enumerate(taken) if all(high < a or b < low for a, b in used)), len(taken))
         if lane == len(taken):
             taken.append([])
         taken[lane].append((low, high))
-        found.append(lane)
-    return found
+        found[at] = lane
+    return [found[at] for at in range(len(spans))]
 
 
 def draw(ontology):
@@ -157,7 +158,8 @@ def draw(ontology):
         yield f"<path d='M{tip} {y[end]}l7 -4v8z' fill='{INK['some']}'/>"
     for number, ((low, top), lane) in enumerate(zip(clashes, on_left), 1):
         x = left - 10 - LANE * lane
-        yield f"<path d='M{left - 3} {y[low]}H{x}V{y[top]}H{left - 3}' fill='none' stroke='{INK['clash']}'/>"
+        from_x, to_x = left - 3 + rows[low][1] * INDENT, left - 3 + rows[top][1] * INDENT
+        yield f"<path d='M{from_x} {y[low]}H{x}V{y[top]}H{to_x}' fill='none' stroke='{INK['clash']}'/>"
         middle = (y[low] + y[top]) // 2
         yield f"<text x='{x - 3}' y='{middle + 3}' fill='{INK['clash']}' font-size='9' text-anchor='end'>{number}</text>"
     yield "</svg>"
