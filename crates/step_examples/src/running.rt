@@ -8,7 +8,7 @@ use crate::leaves::leaves_at;
 use crate::plain::{Fact, holds_last};
 use answer_tables::Made;
 use formula_store::Store;
-use progression::{Kept, advance, start};
+use progression::{Kept, Slots, advance, start};
 use std::alloc::Global;
 use tcq_syntax::Query;
 
@@ -32,7 +32,11 @@ fn one_step(
         → StandsFor [] 1 (history_of facts.now) query.now r.0 × IsTrue r.1) }
 {
     let leaves = leaves_at(alloc, query.nodes(), facts[facts.len() - 1])?;
-    let (kept, rows) = advance(alloc, query, 1, kept, leaves.as_slice(), made, store).ok()?;
+    let slots = Slots {
+        kept: 1,
+        answered: 1,
+    };
+    let (kept, rows) = advance(alloc, query, slots, kept, leaves.as_slice(), made, store).ok()?;
     let expected = holds_last(query.nodes(), facts);
     Some((kept, rows.is_empty() != expected))
 }

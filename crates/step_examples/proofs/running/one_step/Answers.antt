@@ -9,12 +9,17 @@ use Rattle.tcq_syntax.specs.Formula.{IsTable}
 use Rattle.tcq_syntax.specs.Histories.{History, with_snapshot}
 use Rattle.tcq_syntax.proofs.Trees.{children_are_below}
 use Rattle.progression.specs.declared.kept.Kept.{Kept}
+use Rattle.progression.specs.declared.kept.Slots.{Slots}
 use Rattle.progression.specs.Kept.{Advances, AreLeafAnswers, StandsFor}
 use Rattle.step_examples.specs.Over.{AreAnswers}
 use Rattle.step_examples.specs.Plain.{LeafAsksForMembers, HoldsLast, Told, history_of, snapshot_of}
 use Rattle.step_examples.proofs.LeafLists.{ok_is, one_pow}
 use Rattle.step_examples.proofs.Agreeing.{differ, history_push, last_is, unequal}
 use Rattle.step_examples.proofs.running.one_step.Goals as goal
+
+-- the only individual
+abbrev one_slot : Slots
+one_slot = record { kept = 1; answered = 1 }
 
 pub advance-requires-clause-few : goal.advance-requires-clause-few
 advance-requires-clause-few c = omega (arith, one_pow c.args.query.now.vars)
@@ -46,10 +51,10 @@ returns-clause-agrees c =
     (λ (r : Kept × Relation). (inclusions : List Inclusion) (history : History)
     (snapshot : List Fact) → StandsFor inclusions 1 history query c.args.kept.now
     → AreLeafAnswers inclusions snapshot query leaves
-    → Advances inclusions 1 (with_snapshot snapshot history) query r.0 r.1.rows)
+    → Advances inclusions one_slot (with_snapshot snapshot history) query r.0 r.1.rows)
     c.advance.ensures.advances in
-    let advanced : Advances [] 1 (history_of facts) query kept rows.rows =
-    subst (λ (h : History). Advances [] 1 h query kept rows.rows)
+    let advanced : Advances [] one_slot (history_of facts) query kept rows.rows =
+    subst (λ (h : History). Advances [] one_slot h query kept rows.rows)
     (history_push before told ∙ ap history_of (sym is))
     (advances [] (history_of before) (snapshot_of told) stands answers) in
     let expects : IsTrue c.holds_last-expected.result ↔ HoldsLast query.nodes facts =
