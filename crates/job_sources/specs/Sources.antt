@@ -1,6 +1,7 @@
 -- The opening: what the sources of a job say, or why they can't be used, in the order of opening.
-use Rattle.std.specs.Prelude.{◌≡◌, ◌⊎◌, ℕ, List, Option, Ok, Err}
+use Rattle.std.specs.Prelude.{◌≡◌, ◌⊎◌, ℕ, false, List, Option, Ok, Err}
 use Rattle.dl_syntax.specs.Ontology.{Declared}
+use Rattle.tcq_syntax.specs.Histories.{empty_history}
 use Rattle.edge_io.specs.Causes.{Rose}
 use Rattle.edge_io.specs.Held.{Store, Lacks}
 use Rattle.ontology_reader.specs.declared.OntologyKind.{OntologyKind}
@@ -10,7 +11,7 @@ use Rattle.tcq_reader.specs.Reading.{SaysQueries, IsFault}
 use Rattle.monitor_core.specs.Opening.{HasMoreRewritings}
 use Rattle.monitor_core.specs.Setting.{Setting}
 use Rattle.monitor_core.specs.Keeping.{Monitored}
-use Rattle.monitor_core.specs.Standing.{Stands, setting_of, no_history}
+use Rattle.monitor_core.specs.Standing.{Stands, setting_of}
 use Rattle.report_text.specs.Names.{AreSpelled}
 use Rattle.stream_report.specs.declared.ending.Ending.{Ending}
 use Rattle.stream_report.specs.declared.ending.Ending.TheVariants.{Refused, ReadFault, Memory}
@@ -146,8 +147,8 @@ AreQueriesAtFault ontology text (Refused (BadQueries line kind)) = IsFault ontol
 AreQueriesAtFault ontology text Memory = Unit {0}
 AreQueriesAtFault ontology text _ = ⊥
 
--- the monitor is the one of what the sources say, before any snapshot
+-- the monitor is the one of what the sources say, before any snapshot, where names may come
 pub record Opened (says : Setting → Type 0) (monitor : Monitored) : Type 0 where
   pub opens : Opens nothing_more says (setting_of monitor)
-  pub stands : Stands monitor no_history
+  pub stands : Stands monitor (empty_history false)
   pub spelled : AreSpelled (setting_of monitor).queries

@@ -1,8 +1,9 @@
 //! The monitor of the files that the words name.
 
-ghost use Rattle.std.specs.Prelude.{◌≡◌, IfOk, IfErr};
+ghost use Rattle.std.specs.Prelude.{◌≡◌, false, IfOk, IfErr};
+ghost use Rattle.tcq_syntax.specs.Histories.{empty_history};
 ghost use Rattle.tcq_syntax.specs.Within.{AreWithin};
-ghost use Rattle.monitor_core.specs.Standing.{Stands, setting_of, no_history};
+ghost use Rattle.monitor_core.specs.Standing.{Stands, setting_of};
 ghost use Rattle.stream_report.specs.Outside.{files_told};
 ghost use Rattle.job_sources.specs.FileNames.{file_names};
 ghost use Rattle.job_sources.specs.Opening.{Is};
@@ -22,11 +23,11 @@ use stream_report::Ending;
 /// The most queries that leaves and clashes may reach.
 pub const REWRITING_LIMIT: u32 = 1_048_576;
 
-/// The monitor of what the sources say, before any snapshot, or how the run ends.
+/// The monitor of what the sources say, before any snapshot and any name, or how the run ends.
 fn monitor_of(alloc: Global, sources: Sources) -> Result<Monitor, Ending<Refusal>>
     requires { AreWithin sources.ontology sources.queries.items }
     ensures setting { IfOk result (λ monitor. setting_of monitor ≡ setting_in sources) }
-    ensures stands { IfOk result (λ monitor. Stands monitor no_history) }
+    ensures stands { IfOk result (λ monitor. Stands monitor (empty_history false)) }
     ensures few { IfOk result (λ _. AreTooMany (setting_in sources) → ⊥) }
     ensures refused { IfErr result (IsRefused nothing_more (setting_in sources)) }
 {
@@ -38,7 +39,7 @@ fn monitor_of(alloc: Global, sources: Sources) -> Result<Monitor, Ending<Refusal
     }
 }
 
-/// The monitor of the files of these names, before any snapshot, or how the run ends.
+/// The monitor of the files of these names, before any snapshot and any name, or how the run ends.
 pub fn open_files<F: Files>(
     alloc: Global,
     files: &mut F,
@@ -61,7 +62,7 @@ pub fn open_files<F: Files>(
     }
 }
 
-/// The monitor of these texts, before any snapshot, or how the run ends.
+/// The monitor of these texts, before any snapshot and any name, or how the run ends.
 pub fn open_texts(
     alloc: Global,
     ontology: &[u8],

@@ -38,8 +38,11 @@ goes_once task before number line one other after later p q =
 
 watches_once : (task : Task) → IsOneValued (watches task)
 watches_once task before number line one other after later p q =
-    let same = goes_once task before number line p.0 q.0 after later p.1 q.1 in
-    (p.2 ∙ (ap (bytes_of task) same.0 ∙ sym q.2), same.1)
+    let same = goes_once task before number line p.0 q.0 after later p.1 q.1 in (
+      p.2 ∙ (ap (bytes_of task after.history) same.0
+          ∙ (ap (λ (s : Standing). bytes_of task s.history q.0) same.1 ∙ sym q.2)),
+      same.1,
+    )
 
 pub watching_once : (task : Task) → HasOneText (watching task)
 watching_once task = (watches_once task, λ state one other p q. p ∙ sym q)

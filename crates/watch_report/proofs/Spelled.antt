@@ -2,8 +2,8 @@
 use Rattle.std.proofs.Common.{◌≡◌, ℕ, List, refl, sym, subst}
 use Rattle.dl_syntax.specs.Ontology.{Declared}
 use Rattle.forms.specs.declared.StreamForm.{StreamForm}
-use Rattle.snapshot_reader.specs.Said.{Said, nothing, says, said, is_malformed, unknown, wrong_kind}
-use Rattle.snapshot_reader.specs.Said.{undeclared, too_many_facts}
+use Rattle.snapshot_reader.specs.Said.{Said, nothing, names, says, said, is_malformed, unknown}
+use Rattle.snapshot_reader.specs.Said.{wrong_kind, undeclared, too_many_facts}
 use Rattle.snapshot_reader.specs.Said.{Cause as SaidCause, refused as is_refused}
 use Rattle.snapshot_reader.specs.Laws.{CauseIsSpelled}
 use Rattle.snapshot_reader.proofs.RefusedNames.{refuses_names}
@@ -22,6 +22,7 @@ same_spelling too_many_facts is = tt
 by_said : (s : Said) (cause : Cause) → ((c : SaidCause) → s ≡ is_refused c → CauseIsSpelled c)
     → IsRefusedFor s cause → IsSpelledCause cause
 by_said nothing cause law is = absurd is
+by_said (names name) cause law is = absurd is
 by_said (says facts) cause law is = absurd is
 by_said (is_refused c) cause law is = subst IsSpelledCause (sym is) (same_spelling c (law c refl))
 

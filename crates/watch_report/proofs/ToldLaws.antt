@@ -12,16 +12,17 @@ use Rattle.tcq_syntax.specs.Histories.{History}
 use Rattle.tcq_syntax.specs.Tcq.{Tcq}
 use Rattle.tcq_syntax.proofs.OneList.{one_answers}
 use Rattle.edge_io.specs.Lines.{text, too_long}
-use Rattle.snapshot_reader.specs.Said.{Said, nothing, says, said}
+use Rattle.snapshot_reader.specs.Said.{Said, nothing, names, says, said}
 use Rattle.snapshot_reader.specs.Said.{refused as is_refused}
 use Rattle.report_text.specs.declared.item.Cause.{Cause}
 use Rattle.report_text.specs.declared.item.Cause.TheVariants.{TooLong, Malformed, Unknown}
 use Rattle.report_text.specs.declared.item.Cause.TheVariants.{WrongKind, Undeclared, TooManyFacts}
-use Rattle.report_text.specs.declared.item.Cause.TheVariants.{Contradiction}
+use Rattle.report_text.specs.declared.item.Cause.TheVariants.{Contradiction, Closed, NameTwice}
+use Rattle.report_text.specs.declared.item.Cause.TheVariants.{TooMany, TooLarge}
 use Rattle.report_text.specs.declared.event.Event.{Event}
 use Rattle.report_text.specs.declared.event.Event.TheVariants.{Accepted}
 use Rattle.consistency.specs.Least.{IsLeastClash, IsConsistentUnder}
-use Rattle.monitor_core.specs.Answering.{AreRowsOf, AreAllAnswers}
+use Rattle.monitor_core.specs.Answering.{AreRowsOf, AreAllAnswers, own_count}
 use Rattle.monitor_core.specs.Setting.{Setting}
 use Rattle.tcq_syntax.specs.Kept.{IsKeptSize}
 use Rattle.dl_syntax.specs.Rows.{Relation}
@@ -29,8 +30,9 @@ use Rattle.dl_syntax.specs.declared.ontology.Inclusion.{Inclusion}
 use Rattle.std.specs.List.Sorted.{IsPermutation}
 use Rattle.std.proofs.lemmas.List.Sorted.{sum_by-IsPermutation}
 use Rattle.monitor_core.specs.Standing.{count_of}
-use Rattle.watch_report.specs.Outcome.{Outcome, skip, refused, accepted, SnapshotHas, SaidHas}
-use Rattle.watch_report.specs.Task.{Task}
+use Rattle.watch_report.specs.Outcome.{Outcome, skip, refused, declares, accepted, SnapshotHas}
+use Rattle.watch_report.specs.Outcome.{SaidHas}
+use Rattle.watch_report.specs.Task.{Task, ontology_after}
 use Rattle.watch_report.specs.Told.{AreSizes, AreAskedSizes, TellsAccepted, Replies}
 use Rattle.report_text.proofs.Arrangements.{arranged}
 use Rattle.watch_report.specs.ReportLaws.{OneOutcome, OneLine}
@@ -72,11 +74,17 @@ module _ (ontology : Declared) (snapshot : List Fact) where
   by_clash (Undeclared name) has = absurd has
   by_clash TooManyFacts has = absurd has
   by_clash (Contradiction number) has = (number, refl, has)
+  by_clash Closed has = absurd has
+  by_clash (NameTwice name) has = absurd has
+  by_clash TooMany has = absurd has
+  by_clash (TooLarge total) has = absurd has
 
   one_snapshot : (one other : Outcome) → SnapshotHas ontology snapshot one
       → SnapshotHas ontology snapshot other → one ≡ other
   one_snapshot skip other p q = absurd p
+  one_snapshot (declares name) other p q = absurd p
   one_snapshot (refused c) skip p q = absurd q
+  one_snapshot (refused c) (declares name) p q = absurd q
   one_snapshot (refused c) (refused d) p q =
       let first = by_clash c p in
       let second = by_clash d q in
@@ -85,20 +93,23 @@ module _ (ontology : Declared) (snapshot : List Fact) where
   one_snapshot (refused c) (accepted b) p q = let first = by_clash c p in
       absurd (never_both first.0 first.2 q.1)
   one_snapshot (accepted a) skip p q = absurd q
+  one_snapshot (accepted a) (declares name) p q = absurd q
   one_snapshot (accepted a) (refused d) p q = let second = by_clash d q in
       absurd (never_both second.0 second.2 p.1)
   one_snapshot (accepted a) (accepted b) p q = ap accepted (p.0 ∙ sym q.0)
 
-one_said : (ontology : Declared) (what : Said) (one other : Outcome) → SaidHas ontology what one
-    → SaidHas ontology what other → one ≡ other
-one_said ontology nothing one other p q = p ∙ sym q
-one_said ontology (is_refused cause) one other p q = p ∙ sym q
-one_said ontology (says snapshot) one other p q = one_snapshot ontology snapshot one other p q
+one_said : (setting : Setting) (history : History) (what : Said) (one other : Outcome)
+    → SaidHas setting history what one → SaidHas setting history what other → one ≡ other
+one_said setting history nothing one other p q = p ∙ sym q
+one_said setting history (is_refused cause) one other p q = p ∙ sym q
+one_said setting history (names name) one other p q = p ∙ sym q
+one_said setting history (says snapshot) one other p q =
+    one_snapshot (ontology_after setting history) snapshot one other p q
 
 pub one_outcome : OneOutcome
-one_outcome ontology form too_long one other p q = p ∙ sym q
-one_outcome ontology form (text line) one other p q =
-    one_said ontology (said ontology form line) one other p q
+one_outcome setting history form too_long one other p q = p ∙ sym q
+one_outcome setting history form (text line) one other p q =
+    one_said setting history (said (ontology_after setting history) form line) one other p q
 
 same_relation : (one other : Relation) → one.arity ≡ other.arity → one.rows ≡ other.rows
     → one ≡ other
@@ -117,7 +128,7 @@ one_relations ontology history (query ∷ queries) [] other p q r s = absurd p
 one_relations ontology history (query ∷ queries) (x ∷ xs) [] p q r s = absurd r
 one_relations ontology history (query ∷ queries) (x ∷ xs) (y ∷ ys) p q r s =
     let rows : x.rows ≡ y.rows =
-    one_answers ontology.inclusions (length ontology.individuals) query history x.rows y.rows
+    one_answers ontology.inclusions (own_count ontology history) query history x.rows y.rows
     q.0 s.0 in
     let first : x ≡ y = same_relation x y (p.0 ∙ sym r.0) rows in
     let later : xs ≡ ys = one_relations ontology history queries xs ys p.2 q.1 r.2 s.1 in
@@ -162,7 +173,8 @@ one_accepted : (task : Task) (after : History) (line : ℕ) (one other : List Ev
     → TellsAccepted task after line one → TellsAccepted task after line other → one ≡ other
 one_accepted task after line one other p q =
     let relations : p.relations ≡ q.relations =
-    one_relations task.setting.ontology after task.setting.queries p.relations q.relations
+    one_relations (ontology_after task.setting after) after task.setting.queries p.relations
+    q.relations
     p.answered.shaped p.answered.exact q.answered.shaped q.answered.exact in
     let kept : p.kept ≡ q.kept =
     one_asked task.options.sizes task.setting after p.kept q.kept p.sizes q.sizes in
@@ -177,6 +189,8 @@ one_replies : (task : Task) (history : History) (line : ℕ) (outcome : Outcome)
 one_replies task history line skip one other after later p q = (p.0 ∙ sym q.0, p.1 ∙ sym q.1)
 one_replies task history line (refused cause) one other after later p q =
     (p.0 ∙ sym q.0, p.1 ∙ sym q.1)
+one_replies task history line (declares name) one other after later p q =
+    (p.0 ∙ sym q.0, p.1 ∙ sym q.1)
 one_replies task history line (accepted snapshot) one other after later p q =
     let same : after ≡ later = p.0 ∙ sym q.0 in (
       one_accepted task later line one other
@@ -187,6 +201,6 @@ one_replies task history line (accepted snapshot) one other after later p q =
 pub one_line : OneLine
 one_line task history line item one other after later p q =
     let same : p.outcome ≡ q.outcome =
-    one_outcome task.setting.ontology task.options.form item p.outcome q.outcome p.has q.has in
+    one_outcome task.setting history task.options.form item p.outcome q.outcome p.has q.has in
     one_replies task history line q.outcome one other after later
     (subst (λ (o : Outcome). Replies task history line o one after) same p.replies) q.replies

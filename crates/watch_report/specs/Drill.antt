@@ -47,7 +47,8 @@ abbrev pub rehearsing : Task → Manner Rehearsed
 rehearsing task = record {
   opening = [];
   step = rehearses task;
-  closes = λ after last. last ≡ bytes_of task (after.last ++ end_event after.standing ∷ []);
+  closes = λ after last. last
+      ≡ bytes_of task after.standing.history (after.last ++ end_event after.standing ∷ []);
 }
 
 -- what a drill tells of a stream

@@ -1,21 +1,29 @@
--- What a line of a stream comes to.
-use Rattle.std.specs.Prelude.{◌≡◌, List}
+-- What a line of a stream comes to, after a history.
+use Rattle.std.specs.Prelude.{◌≡◌, ℕ, Option, None, Some, List}
 use Rattle.dl_syntax.specs.declared.facts.Fact.{Fact}
 use Rattle.dl_syntax.specs.Ontology.{Declared}
+use Rattle.tcq_syntax.specs.Arrivals.{NameFault, fault_after}
+use Rattle.tcq_syntax.specs.Arrivals.{Closed as IsClosed, NameTwice as IsTwice}
+use Rattle.tcq_syntax.specs.Arrivals.{TooMany as AreTooMany, TooLarge as IsTooLarge}
+use Rattle.tcq_syntax.specs.Histories.{History}
 use Rattle.edge_io.specs.Lines.{Item as StreamLine, text, too_long}
 use Rattle.forms.specs.declared.StreamForm.{StreamForm}
 use Rattle.snapshot_reader.specs.Said.{Cause as SaidCause, is_malformed, unknown, wrong_kind}
-use Rattle.snapshot_reader.specs.Said.{undeclared, too_many_facts, Said, nothing, says, said}
+use Rattle.snapshot_reader.specs.Said.{undeclared, too_many_facts, Said, nothing, names, says, said}
 use Rattle.snapshot_reader.specs.Said.{refused as is_refused}
 use Rattle.report_text.specs.declared.item.Cause.{Cause}
 use Rattle.report_text.specs.declared.item.Cause.TheVariants.{TooLong, Malformed, Unknown}
 use Rattle.report_text.specs.declared.item.Cause.TheVariants.{WrongKind, Undeclared, TooManyFacts}
-use Rattle.report_text.specs.declared.item.Cause.TheVariants.{Contradiction}
+use Rattle.report_text.specs.declared.item.Cause.TheVariants.{Contradiction, Closed, NameTwice}
+use Rattle.report_text.specs.declared.item.Cause.TheVariants.{TooMany, TooLarge}
 use Rattle.consistency.specs.Least.{IsLeastClash, IsConsistentUnder}
+use Rattle.monitor_core.specs.Setting.{Setting}
+use Rattle.watch_report.specs.Task.{ontology_after}
 
 pub data Outcome : Type 0 where
   skip : Outcome
   refused : (cause : Cause) → Outcome
+  declares : (name : List ℕ) → Outcome
   accepted : (snapshot : List Fact) → Outcome
 
 -- the cause as a report tells it
@@ -32,15 +40,33 @@ SnapshotHas ontology snapshot skip = ⊥
 SnapshotHas ontology snapshot (refused (Contradiction number)) =
     IsLeastClash ontology snapshot number
 SnapshotHas ontology snapshot (refused _) = ⊥
+SnapshotHas ontology snapshot (declares name) = ⊥
 SnapshotHas ontology snapshot (accepted taken) =
     (taken ≡ snapshot) × IsConsistentUnder ontology snapshot
 
-abbrev pub SaidHas : Declared → Said → Outcome → Type 0
-SaidHas ontology nothing outcome = outcome ≡ skip
-SaidHas ontology (is_refused cause) outcome = outcome ≡ refused (cause_of cause)
-SaidHas ontology (says snapshot) outcome = SnapshotHas ontology snapshot outcome
+-- why a name is refused, as a report tells it
+abbrev pub cause_of_name : List ℕ → NameFault → Cause
+cause_of_name name IsClosed = Closed
+cause_of_name name IsTwice = NameTwice name
+cause_of_name name AreTooMany = TooMany
+cause_of_name name (IsTooLarge total) = TooLarge total
 
--- the line, in this form, has this outcome
-abbrev pub HasOutcome : Declared → StreamForm → StreamLine → Outcome → Type 0
-HasOutcome ontology form too_long outcome = outcome ≡ refused TooLong
-HasOutcome ontology form (text line) outcome = SaidHas ontology (said ontology form line) outcome
+-- the name is refused for what is at fault with it, or declared where nothing is
+abbrev pub name_comes_to : List ℕ → Option NameFault → Outcome
+name_comes_to name None = declares name
+name_comes_to name (Some fault) = refused (cause_of_name name fault)
+
+abbrev pub SaidHas : Setting → History → Said → Outcome → Type 0
+SaidHas setting history nothing outcome = outcome ≡ skip
+SaidHas setting history (is_refused cause) outcome = outcome ≡ refused (cause_of cause)
+SaidHas setting history (names name) outcome =
+    outcome ≡ name_comes_to name (fault_after setting.ontology setting.queries history name)
+SaidHas setting history (says snapshot) outcome =
+    SnapshotHas (ontology_after setting history) snapshot outcome
+
+-- the line, in this form, has this outcome after the history: it is read by the names of the
+-- ontology and of the history
+abbrev pub HasOutcome : Setting → History → StreamForm → StreamLine → Outcome → Type 0
+HasOutcome setting history form too_long outcome = outcome ≡ refused TooLong
+HasOutcome setting history form (text line) outcome =
+    SaidHas setting history (said (ontology_after setting history) form line) outcome

@@ -9,9 +9,11 @@ use Rattle.tcq_syntax.specs.Tcq.{Tcq}
 use Rattle.report_text.specs.declared.item.Cause.{Cause}
 use Rattle.report_text.specs.declared.item.Cause.TheVariants.{TooLong, Malformed, Unknown}
 use Rattle.report_text.specs.declared.item.Cause.TheVariants.{WrongKind, Undeclared, TooManyFacts}
-use Rattle.report_text.specs.declared.item.Cause.TheVariants.{Contradiction}
+use Rattle.report_text.specs.declared.item.Cause.TheVariants.{Contradiction, Closed, NameTwice}
+use Rattle.report_text.specs.declared.item.Cause.TheVariants.{TooMany, TooLarge}
 use Rattle.report_text.specs.declared.event.Event.{Event}
 use Rattle.report_text.specs.declared.event.Event.TheVariants.{Accepted, Refused, End}
+use Rattle.report_text.specs.declared.event.Event.TheVariants.{Declared as Arrived}
 use Rattle.report_text.specs.Events.{HasSizes, AreAnswered, HasAnswers, IsSpelledEvent}
 use Rattle.report_text.specs.Events.{EventHasNames}
 use Rattle.report_text.specs.Names.{IsSpelledCause}
@@ -34,6 +36,10 @@ IsSpelledCause-prop (WrongKind name) = IsName-prop name
 IsSpelledCause-prop (Undeclared name) = IsName-prop name
 IsSpelledCause-prop TooManyFacts = Prim.hlevel std.props
 IsSpelledCause-prop (Contradiction number) = Prim.hlevel std.props
+IsSpelledCause-prop Closed = Prim.hlevel std.props
+IsSpelledCause-prop (NameTwice name) = IsName-prop name
+IsSpelledCause-prop TooMany = Prim.hlevel std.props
+IsSpelledCause-prop (TooLarge total) = Prim.hlevel std.props
 
 ruleset parts = (std.props, IsName-prop, HasSizes-prop, IsSpelledCause-prop)
 
@@ -45,11 +51,13 @@ HasAnswers-prop : (ontology : Declared) (queries : List Tcq) (event : Event)
     → IsProp (HasAnswers ontology queries event)
 HasAnswers-prop ontology queries (Accepted line number answers kept) =
     AreAnswered-prop ontology queries kept answers
+HasAnswers-prop ontology queries (Arrived line name) = Prim.hlevel std.props
 HasAnswers-prop ontology queries (Refused line cause) = Prim.hlevel std.props
 HasAnswers-prop ontology queries (End accepted refused) = Prim.hlevel std.props
 
 IsSpelledEvent-prop : (event : Event) → IsProp (IsSpelledEvent event)
 IsSpelledEvent-prop (Accepted line number answers kept) = Prim.hlevel std.props
+IsSpelledEvent-prop (Arrived line name) = IsName-prop name
 IsSpelledEvent-prop (Refused line cause) = IsSpelledCause-prop cause
 IsSpelledEvent-prop (End accepted refused) = Prim.hlevel std.props
 

@@ -7,7 +7,9 @@ use Rattle.report_text.specs.declared.item.Cause.TheVariants as cause
 use Rattle.report_text.specs.declared.event.Event.{Event}
 use Rattle.report_text.specs.declared.event.Event.TheVariants as event
 use Rattle.report_text.specs.Events.{EventHasNames}
-use Rattle.snapshot_reader.specs.Said.{Said, nothing, refused, says}
+use Rattle.snapshot_reader.specs.Said.{Said, nothing, refused, names, says}
+use Rattle.declaring.specs.declared.fault.DeclareFault.{DeclareFault}
+use Rattle.declaring.specs.declared.fault.DeclareFault.TheVariants as declare
 use Rattle.monitor_core.specs.declared.accept_fault.AcceptFault.{AcceptFault}
 use Rattle.monitor_core.specs.declared.accept_fault.AcceptFault.TheVariants as fault
 use Rattle.monitor_core.specs.Keeping.{Monitored}
@@ -29,11 +31,25 @@ abbrev pub HasNamesOf : Setting → Option Event → Type 0
 HasNamesOf setting None = Unit {0}
 HasNamesOf setting (Some told) = EventHasNames setting.ontology setting.queries told
 
+-- where there is an event, its numbers and names exist in the new setting; else nothing changed
+abbrev pub KeepsNames : Setting → Setting → Option Event → Type 0
+KeepsNames old new None = new ≡ old
+KeepsNames old new (Some told) = EventHasNames new.ontology new.queries told
+
 -- a text is refused for the cause
 abbrev pub IsRefusedFor : Said → Cause → Type 0
 IsRefusedFor nothing why = ⊥
 IsRefusedFor (refused c) why = why ≡ cause_of c
+IsRefusedFor (names name) why = ⊥
 IsRefusedFor (says snapshot) why = ⊥
+
+-- a name is refused for the cause
+abbrev pub IsNameRefusedFor : List ℕ → DeclareFault → Cause → Type 0
+IsNameRefusedFor name declare.Closed why = why ≡ cause.Closed
+IsNameRefusedFor name (declare.NameTwice place) why = why ≡ cause.NameTwice name
+IsNameRefusedFor name (declare.TooMany place) why = why ≡ cause.TooMany
+IsNameRefusedFor name (declare.TooLarge place total) why = why ≡ cause.TooLarge total
+IsNameRefusedFor name declare.Memory why = ⊥
 
 -- the event tells that the line with this number was refused for the clash that the snapshot met
 abbrev pub IsRefusal : ℕ → AcceptFault → Event → Type 0
@@ -54,5 +70,5 @@ pub record Replied (options : Options) (old new : Monitored) (line : StreamLine)
     (history : History) (before now : List ℕ) (refused : ℕ) : Type 0 where
   pub told : Option Event
   pub accepts : AcceptsLine options old new line number told history
-  pub gathers : now ≡ before ++ bytes_of (task_of options old) (told_by told)
+  pub gathers : now ≡ before ++ bytes_of (task_of options old) accepts.after (told_by told)
   pub refuses : refused ≡ refused_in (told_by told)

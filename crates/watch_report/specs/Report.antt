@@ -1,23 +1,23 @@
 -- The report of a stream.
 use Rattle.std.specs.Prelude.{◌≡◌, ℕ, ◌+◌, Bool, true, false, List}
 use Rattle.std.specs.List.{flat_map, count_by}
-use Rattle.tcq_syntax.specs.Histories.{History}
+use Rattle.tcq_syntax.specs.Histories.{History, empty_history}
 use Rattle.edge_io.specs.Lines.{Item as StreamLine}
 use Rattle.report_text.specs.declared.event.Event.{Event}
 use Rattle.report_text.specs.declared.event.Event.TheVariants.{Refused, End}
 use Rattle.report_text.specs.Events.{event_text, report_heading_text}
-use Rattle.monitor_core.specs.Standing.{count_of, no_history}
+use Rattle.monitor_core.specs.Standing.{count_of}
 use Rattle.stream_report.specs.Told.{Step, Manner}
-use Rattle.watch_report.specs.Task.{Task}
+use Rattle.watch_report.specs.Task.{Task, ontology_after}
 use Rattle.watch_report.specs.Told.{TellsLine}
 
--- the bytes that tell an event
-abbrev pub bytes_of_event : Task → Event → List ℕ
-bytes_of_event task event = event_text task.options.report task.setting.ontology
-    task.setting.queries event
+-- the bytes that tell an event, by the names after the history
+abbrev pub bytes_of_event : Task → History → Event → List ℕ
+bytes_of_event task history event =
+    event_text task.options.report (ontology_after task.setting history) task.setting.queries event
 
-abbrev pub bytes_of : Task → List Event → List ℕ
-bytes_of task told = flat_map (bytes_of_event task) told
+abbrev pub bytes_of : Task → History → List Event → List ℕ
+bytes_of task history told = flat_map (bytes_of_event task history) told
 
 -- what stands before the first event
 unfoldable pub heading : Task → List ℕ
@@ -30,15 +30,15 @@ is_refusal _ = false
 abbrev pub refused_in : List Event → ℕ
 refused_in told = count_by is_refusal told
 
--- where a watch stands between lines: the snapshots accepted so far, and how many lines were
--- refused
+-- where a watch stands between lines: the names declared and the snapshots accepted so far, and how
+-- many lines were refused
 pub record Standing : Type 0 where
   pub history : History
   pub refused : ℕ
 
--- before the first line
+-- before the first line nothing came, and names may come
 abbrev pub start : Standing
-start = record { history = no_history; refused = 0 }
+start = record { history = empty_history false; refused = 0 }
 
 -- a watch goes on by a line with this number, of which these events are told
 abbrev pub GoesOn : Task → Standing → ℕ → StreamLine → List Event → Standing → Type 0
@@ -55,12 +55,12 @@ abbrev pub watches : Task → Step Standing
 watches task before number line told after =
     (events : List Event)
     × GoesOn task before number line events after
-    × (told ≡ bytes_of task events)
+    × (told ≡ bytes_of task after.history events)
 
 -- and of a stream: first the heading, last the end
 abbrev pub watching : Task → Manner Standing
 watching task = record {
   opening = heading task;
   step = watches task;
-  closes = λ after last. last ≡ bytes_of_event task (end_event after);
+  closes = λ after last. last ≡ bytes_of_event task after.history (end_event after);
 }

@@ -1,6 +1,6 @@
 -- Laws of what is told of lines, and of reports.
 use Rattle.std.specs.Prelude.{◌≡◌, ℕ, List}
-use Rattle.dl_syntax.specs.Ontology.{Declared}
+use Rattle.tcq_syntax.specs.Accepted.{IsHistory}
 use Rattle.tcq_syntax.specs.Histories.{History}
 use Rattle.edge_io.specs.Lines.{Item as StreamLine}
 use Rattle.report_text.specs.declared.event.Event.{Event}
@@ -16,11 +16,22 @@ use Rattle.job_sources.specs.Sources.{nothing_more, Opens}
 use Rattle.watch_report.specs.Task.{Task}
 use Rattle.watch_report.specs.Told.{TellsLine}
 
--- a line has one outcome
+-- a line has one outcome after a history
 abbrev pub OneOutcome : Type 0
 OneOutcome =
-    (ontology : Declared) (form : StreamForm) (item : StreamLine) (one other : Outcome) →
-    HasOutcome ontology form item one → HasOutcome ontology form item other → one ≡ other
+    (setting : Setting) (history : History) (form : StreamForm) (item : StreamLine)
+    (one other : Outcome) →
+    HasOutcome setting history form item one → HasOutcome setting history form item other →
+    one ≡ other
+
+-- the history after a line is one of the ontology and the queries where that before it is
+abbrev pub HistoriesGoOn : Type 0
+HistoriesGoOn =
+    (task : Task) (history : History) (number : ℕ) (line : StreamLine) (told : List Event)
+    (after : History) →
+    IsHistory task.setting.ontology task.setting.queries history →
+    TellsLine task history number line told after →
+    IsHistory task.setting.ontology task.setting.queries after
 
 -- one thing is told of a line, and one history comes after it
 abbrev pub OneLine : Type 0

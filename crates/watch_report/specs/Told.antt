@@ -1,23 +1,24 @@
 -- What a report tells of the lines of a stream.
 use Rattle.std.specs.Prelude.{◌≡◌, ℕ, Bool, true, false, Option, None, Some, List, [], ◌∷◌, length}
 use Rattle.dl_syntax.specs.Rows.{Relation}
-use Rattle.tcq_syntax.specs.Histories.{History, with_snapshot}
+use Rattle.tcq_syntax.specs.Histories.{History, with_snapshot, with_name}
 use Rattle.tcq_syntax.specs.Kept.{IsKeptSize}
 use Rattle.tcq_syntax.specs.Tcq.{Tcq}
 use Rattle.edge_io.specs.Lines.{Item as StreamLine}
 use Rattle.report_text.specs.declared.event.Event.{Event}
-use Rattle.report_text.specs.declared.event.Event.TheVariants.{Accepted, Refused}
+use Rattle.report_text.specs.declared.event.Event.TheVariants.{Accepted, Declared, Refused}
 use Rattle.monitor_core.specs.Answering.{AreRowsOf, AreAllAnswers}
 use Rattle.monitor_core.specs.Setting.{Setting}
 use Rattle.monitor_core.specs.Standing.{count_of}
-use Rattle.watch_report.specs.Outcome.{Outcome, skip, refused, accepted, HasOutcome}
-use Rattle.watch_report.specs.Task.{Task}
+use Rattle.watch_report.specs.Outcome.{Outcome, skip, refused, declares, accepted, HasOutcome}
+use Rattle.watch_report.specs.Task.{Task, ontology_after}
 
--- for each query its answers after the history
+-- for each query its answers after the history, over the individuals of the ontology and those that
+-- came with the history
 pub record Answered (setting : Setting) (history : History) (relations : List Relation) : Type 0
   where
-    pub shaped : AreRowsOf setting.ontology setting.queries relations
-    pub exact : AreAllAnswers setting.ontology setting.queries history relations
+    pub shaped : AreRowsOf (ontology_after setting history) setting.queries relations
+    pub exact : AreAllAnswers (ontology_after setting history) setting.queries history relations
 
 -- for each query how much is kept of it after the history
 abbrev pub AreSizes : Setting → History → List Tcq → List ℕ → Type 0
@@ -49,6 +50,8 @@ abbrev pub Replies : Task → History → ℕ → Outcome → List Event → His
 Replies task history line skip told after = (told ≡ []) × (after ≡ history)
 Replies task history line (refused cause) told after =
     (told ≡ Refused line cause ∷ []) × (after ≡ history)
+Replies task history line (declares name) told after =
+    (told ≡ Declared line name ∷ []) × (after ≡ with_name name history)
 Replies task history line (accepted snapshot) told after = (after ≡ with_snapshot snapshot history)
     × TellsAccepted task after line told
 
@@ -56,5 +59,5 @@ Replies task history line (accepted snapshot) told after = (after ≡ with_snaps
 pub record TellsLine (task : Task) (history : History) (line : ℕ) (item : StreamLine)
     (told : List Event) (after : History) : Type 0 where
   pub outcome : Outcome
-  pub has : HasOutcome task.setting.ontology task.options.form item outcome
+  pub has : HasOutcome task.setting history task.options.form item outcome
   pub replies : Replies task history line outcome told after

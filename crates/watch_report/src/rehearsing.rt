@@ -1,8 +1,9 @@
 //! What is told last of a stream.
 
-ghost use Rattle.std.specs.Prelude.{◌≡◌, ◌++◌, ◌≤◌, ◌^◌, OnOk, length};
+ghost use Rattle.std.specs.Prelude.{◌≡◌, ◌++◌, ◌≤◌, ◌^◌, false, OnOk, length};
+ghost use Rattle.tcq_syntax.specs.Histories.{History, empty_history};
 ghost use Rattle.report_text.specs.Names.{AreSpelled};
-ghost use Rattle.monitor_core.specs.Standing.{setting_of, Stands, no_history};
+ghost use Rattle.monitor_core.specs.Standing.{setting_of, Stands};
 ghost use Rattle.stream_report.specs.Ends.{TextEnds};
 ghost use Rattle.stream_report.specs.Outside.{SourceTold, sink_told};
 ghost use Rattle.watch_report.specs.Drill.{Rehearsed, plain, rehearsing, IsDrill};
@@ -54,8 +55,9 @@ fn gather_last(
     last: &Option<Event>,
 ) -> Result<(), Memory>
     requires { HasNamesOf (setting_of monitor.now) last.now }
-    ensures { OnOk result (gathered.new.items
-        ≡ gathered.old.items ++ bytes_of (task_of plain monitor.now) (told_by last.now)) }
+    ensures { OnOk result ((history : History) → Stands monitor.now history →
+        gathered.new.items ≡ gathered.old.items
+        ++ bytes_of (task_of plain monitor.now) history (told_by last.now)) }
 {
     match last {
         None => Ok(()),
@@ -117,7 +119,7 @@ pub fn rehearse<K: Sink>(
     out: &mut K,
 ) -> Ending<Refusal>
     requires spelled { AreSpelled (setting_of monitor).queries }
-    requires stands { Stands monitor no_history }
+    requires stands { Stands monitor (empty_history false) }
     requires short { length stream.items ≤ 2 ^ 40 }
     ensures ends { (input : SourceTold) →
         TextEnds (IsDrill (setting_of monitor) stream.items) result

@@ -1,31 +1,34 @@
 //! What is told of a line, gathered in a buffer.
 
 ghost use Rattle.std.specs.Prelude.{◌≡◌, ◌++◌, ◌∷◌, [], ◌≤◌, ℕ};
-ghost use Rattle.std.specs.Prelude.{List, Ok, Err, IfOk, OnOk, Some, length};
+ghost use Rattle.std.specs.Prelude.{List, Ok, Err, IfOk, OnOk, OnErr, Some, length};
+ghost use Rattle.dl_syntax.specs.Names.{IsName, IsDeclarable};
 ghost use Rattle.dl_syntax.specs.Ontology.{Declared};
 ghost use Rattle.tcq_syntax.specs.Histories.{History};
 ghost use Rattle.tcq_syntax.specs.Tcq.{Tcq};
 ghost use Rattle.edge_io.specs.Lines.{text as text_line};
 ghost use Rattle.stream_report.specs.Told.{item_of};
-ghost use Rattle.snapshot_reader.specs.Said.{Said, said, says};
+ghost use Rattle.snapshot_reader.specs.Said.{Said, said, names, says};
 ghost use Rattle.snapshot_reader.specs.Answers.{Tells};
 ghost use Rattle.report_text.specs.declared.event.Event.TheVariants as event;
-ghost use Rattle.report_text.specs.Names.{AreSpelled};
+ghost use Rattle.report_text.specs.Names.{AreSpelled, IsSpelledCause};
 ghost use Rattle.report_text.specs.Events.{HasSizes, HasAnswers, IsSpelledEvent, EventHasNames};
 ghost use Rattle.monitor_core.specs.Answering.{AreOver, AreRowsOf, AreAllAnswers};
 ghost use Rattle.monitor_core.specs.Standing.{setting_of, Stands};
-ghost use Rattle.watch_report.specs.Task.{task_of};
+ghost use Rattle.watch_report.specs.Task.{own_setting, task_of};
 ghost use Rattle.watch_report.specs.Told.{AreSizes, AreAskedSizes, TellsAccepted};
 ghost use Rattle.watch_report.specs.Report.{bytes_of_event, refused_in};
-ghost use Rattle.watch_report.specs.Replies.{AcceptsLine, HasNamesOf};
-ghost use Rattle.watch_report.specs.Replies.{IsRefusal, IsRefusedFor, Replied};
+ghost use Rattle.watch_report.specs.Replies.{AcceptsLine, KeepsNames};
+ghost use Rattle.watch_report.specs.Replies.{IsRefusal, IsRefusedFor, IsNameRefusedFor, Replied};
 
 use crate::options::Options;
-use dl_syntax::{Items, Memory, Snapshot, Tuples};
+use declaring::DeclareFault;
+use dl_syntax::{Items, Memory, Name, Snapshot, Tuples};
 use monitor_core::{AcceptFault, Monitor};
 use report_text::{Cause, Event, append_event};
 use snapshot_reader::{Reading, SnapFault, read_snapshot};
 use std::alloc::Global;
+use std::slice::from_ref;
 use stream_report::GivenLine;
 
 /// The cause for which a text is refused, unless memory ran out.
@@ -54,7 +57,7 @@ fn refused(line: u64, cause: Cause) -> Event
 fn sizes_of(alloc: Global, monitor: &Monitor) -> Result<Items<u64>, Memory>
     ensures many { IfOk result (λ sizes. length sizes ≡ length (setting_of monitor.now).queries) }
     ensures sizes { IfOk result (λ sizes. (history : History) → Stands monitor.now history →
-        AreSizes (setting_of monitor.now) history (setting_of monitor.now).queries sizes) }
+        AreSizes (own_setting monitor.now) history (setting_of monitor.now).queries sizes) }
 {
     let count = monitor.queries().len();
     let mut sizes = Vec::with_capacity(alloc, count)?;
@@ -73,7 +76,7 @@ fn asked_sizes(
 ) -> Result<Option<Items<u64>>, Memory>
     ensures many { IfOk result (λ kept. HasSizes (setting_of monitor.now).queries kept) }
     ensures sizes { IfOk result (λ kept. (history : History) → Stands monitor.now history →
-        AreAskedSizes are_asked (setting_of monitor.now) history kept) }
+        AreAskedSizes are_asked (own_setting monitor.now) history kept) }
 {
     if !are_asked {
         return Ok(None);
@@ -136,6 +139,7 @@ fn take(
 ) -> Result<Event, Memory>
     requires { AreOver (setting_of monitor.old).ontology snapshot.now }
     ensures setting { setting_of monitor.new ≡ setting_of monitor.old }
+    ensures own { own_setting monitor.new ≡ own_setting monitor.old }
     ensures answers { IfOk result
         (HasAnswers (setting_of monitor.old).ontology (setting_of monitor.old).queries) }
     ensures spelled { IfOk result IsSpelledEvent }
@@ -151,6 +155,49 @@ fn take(
     }
 }
 
+/// The cause for which a name is refused, unless memory ran out.
+fn cause_of_name(fault: DeclareFault, name: Name) -> Result<Cause, Memory>
+    ensures cause { IfOk result (IsNameRefusedFor name fault) }
+    ensures spelled { IsName name → IfOk result IsSpelledCause }
+{
+    match fault {
+        DeclareFault::Closed => Ok(Cause::Closed),
+        DeclareFault::NameTwice(_) => Ok(Cause::NameTwice(name)),
+        DeclareFault::TooMany(_) => Ok(Cause::TooMany),
+        DeclareFault::TooLarge { total, .. } => Ok(Cause::TooLarge(total)),
+        DeclareFault::Memory => Err(Memory),
+    }
+}
+
+/// What is told of the line with this number, which declares an individual of this name.
+fn declare(
+    alloc: Global,
+    options: Options,
+    monitor: &mut Monitor,
+    number: u64,
+    name: Name,
+) -> Result<Event, Memory>
+    requires name { IsDeclarable name }
+    requires queries { AreSpelled (setting_of monitor.old).queries }
+    ensures own { own_setting monitor.new ≡ own_setting monitor.old }
+    ensures err { OnErr result (setting_of monitor.new ≡ setting_of monitor.old) }
+    ensures names { IfOk result (λ event.
+        EventHasNames (setting_of monitor.new).ontology (setting_of monitor.new).queries event) }
+    ensures ok { IfOk result (λ event. (history : History) (line : List ℕ) →
+        Stands monitor.old history →
+        said (setting_of monitor.old).ontology options.form line ≡ names name →
+        AcceptsLine options monitor.old monitor.new (text_line line) number (Some event)
+        history) }
+{
+    match monitor.declare(alloc, from_ref(&name)) {
+        Ok(()) => Ok(Event::Declared { line: number, name }),
+        Err(fault) => match cause_of_name(fault, name) {
+            Ok(cause) => Ok(refused(number, cause)),
+            Err(fault) => Err(fault),
+        },
+    }
+}
+
 /// What is told of the line with this number and text, if anything is.
 fn ask_text(
     alloc: Global,
@@ -160,13 +207,19 @@ fn ask_text(
     line: &[u8],
 ) -> Result<Option<Event>, Memory>
     requires { AreSpelled (setting_of monitor.old).queries }
-    ensures setting { setting_of monitor.new ≡ setting_of monitor.old }
-    ensures names { IfOk result (λ event. HasNamesOf (setting_of monitor.old) event) }
+    ensures own { own_setting monitor.new ≡ own_setting monitor.old }
+    ensures err { OnErr result (setting_of monitor.new ≡ setting_of monitor.old) }
+    ensures names { IfOk result
+        (KeepsNames (setting_of monitor.old) (setting_of monitor.new)) }
     ensures ok { IfOk result (λ event. (history : History) → Stands monitor.old history →
         AcceptsLine options monitor.old monitor.new (text_line line.now) number event history) }
 {
     match read_snapshot(alloc, line, options.form, monitor.ontology()) {
         Ok(Reading::Skip) => Ok(None),
+        Ok(Reading::Individual(name)) => match declare(alloc, options, monitor, number, name) {
+            Ok(event) => Ok(Some(event)),
+            Err(fault) => Err(fault),
+        },
         Ok(Reading::Facts(snapshot)) => match take(alloc, options, monitor, number, &snapshot) {
             Ok(event) => Ok(Some(event)),
             Err(fault) => Err(fault),
@@ -187,8 +240,10 @@ pub fn ask(
     line: GivenLine<'_>,
 ) -> Result<Option<Event>, Memory>
     requires { AreSpelled (setting_of monitor.old).queries }
-    ensures setting { setting_of monitor.new ≡ setting_of monitor.old }
-    ensures names { IfOk result (λ event. HasNamesOf (setting_of monitor.old) event) }
+    ensures own { own_setting monitor.new ≡ own_setting monitor.old }
+    ensures err { OnErr result (setting_of monitor.new ≡ setting_of monitor.old) }
+    ensures names { IfOk result
+        (KeepsNames (setting_of monitor.old) (setting_of monitor.new)) }
     ensures ok { IfOk result (λ event. (history : History) → Stands monitor.old history →
         AcceptsLine options monitor.old monitor.new (item_of line.entry) number event history) }
 {
@@ -206,11 +261,12 @@ pub fn refusals(event: &Event) -> u64
     match event {
         Event::Refused { .. } => 1,
         Event::Accepted { .. } => 0,
+        Event::Declared { .. } => 0,
         Event::End { .. } => 0,
     }
 }
 
-/// Gathers the bytes of an event.
+/// Gathers the bytes of an event, by the names that the monitor has.
 pub fn gather(
     gathered: &mut Vec<u8>,
     options: Options,
@@ -219,8 +275,9 @@ pub fn gather(
 ) -> Result<(), Memory>
     requires { EventHasNames (setting_of monitor.now).ontology
         (setting_of monitor.now).queries event.now }
-    ensures { OnOk result (gathered.new.items
-        ≡ gathered.old.items ++ bytes_of_event (task_of options monitor.now) event.now) }
+    ensures { OnOk result ((history : History) → Stands monitor.now history →
+        gathered.new.items ≡ gathered.old.items
+        ++ bytes_of_event (task_of options monitor.now) history event.now) }
 {
     append_event(
         gathered,
@@ -241,7 +298,7 @@ pub fn tell(
     gathered: &mut Vec<u8>,
 ) -> Result<u64, Memory>
     requires { AreSpelled (setting_of monitor.old).queries }
-    ensures setting { setting_of monitor.new ≡ setting_of monitor.old }
+    ensures own { own_setting monitor.new ≡ own_setting monitor.old }
     ensures small { IfOk result (λ refused. refused ≤ 1) }
     ensures ok { IfOk result (λ refused. (history : History) → Stands monitor.old history →
         Replied options monitor.old monitor.new (item_of line.entry) number history

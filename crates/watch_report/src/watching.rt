@@ -1,8 +1,9 @@
 //! The command `watch`.
 
-ghost use Rattle.std.specs.Prelude.{◌≡◌};
+ghost use Rattle.std.specs.Prelude.{◌≡◌, false};
+ghost use Rattle.tcq_syntax.specs.Histories.{empty_history};
 ghost use Rattle.report_text.specs.Names.{AreSpelled};
-ghost use Rattle.monitor_core.specs.Standing.{setting_of, Stands, no_history};
+ghost use Rattle.monitor_core.specs.Standing.{setting_of, Stands};
 ghost use Rattle.stream_report.specs.Ends.{StreamEnds};
 ghost use Rattle.stream_report.specs.Outside.{ports_of, outside_of};
 ghost use Rattle.job_sources.specs.FileNames.{file_names};
@@ -90,8 +91,9 @@ fn watch<S: Source, K: Sink>(
     out: &mut K,
 ) -> Ending<Refusal>
     requires spelled { AreSpelled (setting_of monitor).queries }
-    requires stands { Stands monitor no_history }
-    ensures ends { StreamEnds (watching (task_of options monitor)) start result
+    requires stands { Stands monitor (empty_history false) }
+    ensures ends { StreamEnds
+        (watching (record { setting = setting_of monitor; options = options })) start result
         (ports_of S.Source K.Sink input.old out.old)
         (ports_of S.Source K.Sink input.new out.new) }
 {

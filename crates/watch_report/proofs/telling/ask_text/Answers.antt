@@ -1,14 +1,31 @@
 use Rattle.std.proofs.Common.{◌≡◌, Some, sym, subst}
 use Rattle.dl_syntax.specs.Ontology.{Declared}
 use Rattle.edge_io.specs.Lines.{text}
-use Rattle.snapshot_reader.specs.Said.{said, says}
+use Rattle.snapshot_reader.specs.Said.{said, nothing, names, says}
+use Rattle.snapshot_reader.proofs.RefusedNames.{declares_names}
 use Rattle.report_text.specs.declared.event.Event.{Event}
 use Rattle.monitor_core.specs.Standing.{setting_of}
 use Rattle.watch_report.specs.Replies.{AcceptsLine, IsRefusedFor}
 use Rattle.watch_report.proofs.Sayings.{says_over}
 use Rattle.watch_report.proofs.Spelled.{cause_spelled}
-use Rattle.watch_report.proofs.ReplyLaws.{refused_text, refused_names}
+use Rattle.watch_report.proofs.ReplyLaws.{refused_text, refused_names, skipped_text}
 use Rattle.watch_report.proofs.telling.ask_text.Goals as goal
+
+pub returns-in-Ok-Skip-clause-ok : goal.returns-in-Ok-Skip-clause-ok
+returns-in-Ok-Skip-clause-ok c = λ history stands.
+    let is : said c.ontology.result.now c.args.options.form c.args.line.now ≡ nothing =
+    rw c.in-Ok-Skip.field-0-is at c.in-Ok-Skip.ensures in
+    skipped_text c.args.options c.args.monitor.now c.args.line.now c.args.number history
+    (subst (λ (o : Declared). said o c.args.options.form c.args.line.now ≡ nothing)
+    c.ontology.ensures is) stands
+
+pub declare-requires-clause-name : goal.declare-requires-clause-name
+declare-requires-clause-name c =
+    let is : said c.ontology.result.now c.args.options.form c.args.line.now
+    ≡ names c.in-Ok-Individual.name = rw c.in-Ok-Individual.field-0-is at
+    c.in-Ok-Individual.ensures in
+    declares_names c.ontology.result.now c.args.options.form c.args.line.now
+    c.in-Ok-Individual.name is
 
 pub take-requires : goal.take-requires
 take-requires c =

@@ -1,6 +1,7 @@
 use Rattle.std.proofs.Common.{◌≡◌, length, take}
 use Rattle.tcq_syntax.specs.Histories.{History}
 use Rattle.monitor_core.specs.Standing.{setting_of, Stands}
+use Rattle.watch_report.specs.Task.{own_setting}
 use Rattle.watch_report.specs.Told.{AreSizes}
 use Rattle.watch_report.proofs.telling.sizes_of.Given as goal
 
@@ -9,6 +10,6 @@ invariant-loop-place l = record {
   many : length l.sizes.items ≡ l.place;
   counted : l.count ≡ length (setting_of l.monitor).queries;
   sizes : (history : History) → Stands l.monitor history
-      → AreSizes (setting_of l.monitor) history (take l.place (setting_of l.monitor).queries)
+      → AreSizes (own_setting l.monitor) history (take l.place (setting_of l.monitor).queries)
       l.sizes.items;
 }

@@ -1,0 +1,5 @@
+use Rattle.watch_report.proofs.HistoryLaws as histories
+use Rattle.watch_report.proofs.laws.histories_go_on.Goals as goal
+
+pub returns : goal.returns
+returns c = histories.histories_go_on
