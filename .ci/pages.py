@@ -8,6 +8,7 @@ Of the man page the blocks between .EX and .EE that begin with `$ ` are run. Eac
 backticks, has to be there.
 """
 
+import concurrent.futures
 import os
 import pathlib
 import re
@@ -116,7 +117,10 @@ def run(commands, copy, top):
     }
     for folder in ("home", "scratch"):
         (copy / folder).mkdir()
-    ran = subprocess.run(["bash"], input=script, cwd=copy, env=place, capture_output=True, text=True, check=False)
+    words = ["bash", "-c", script]
+    ran = subprocess.run(
+        words, stdin=subprocess.DEVNULL, cwd=copy, env=place, capture_output=True, text=True, check=False, timeout=120
+    )
     return [part.splitlines() for part in ran.stdout.split(MARK)], ran.stderr
 
 
@@ -152,12 +156,12 @@ def main():
         pages += sorted((top / folder).rglob("*.md"))
     if sys.argv[1:]:
         pages = [pathlib.Path(name).resolve() for name in sys.argv[1:]]
-    faulty = False
-    for page in pages:
-        for fault in check(page, top) if page.exists() else ["is missing"]:
+    with concurrent.futures.ThreadPoolExecutor() as pool:
+        found = list(pool.map(lambda page: check(page, top) if page.exists() else ["is missing"], pages))
+    for page, faults in zip(pages, found):
+        for fault in faults:
             print(f"checks: {page.relative_to(top)}: {fault}")
-            faulty = True
-    return faulty
+    return any(found)
 
 
 if __name__ == "__main__":
