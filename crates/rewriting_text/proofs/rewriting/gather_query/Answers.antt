@@ -1,4 +1,6 @@
-use Rattle.std.proofs.Common.{◌∙◌}
+use Rattle.std.proofs.Common.{◌≡◌, ◌∙◌, Err, ap, sym}
+use Rattle.std.proofs.lemmas.Result.{err_from_is_err_and}
+use Rattle.perfect_ref.specs.declared.rewriting.RewriteFault.TheVariants.{TooManyRewritings}
 use Rattle.perfect_ref.specs.Plain.{encoded}
 use Rattle.rewriting_text.proofs.Gathering.{leaf_query, node_next, node_large}
 use Rattle.rewriting_text.proofs.rewriting.gather_query.Goals as goal
@@ -9,13 +11,16 @@ gather_node-requires-clause-query c = λ q is.
     c.loop-place.place c.index-nodes-place.result q c.nodes-nodes.ensures.same
     c.nodes-nodes.ensures.valid c.loop-place-test.true c.index-nodes-place.is is
 
-pub returns-in-Err-clause-many : goal.returns-in-Err-clause-many
-returns-in-Err-clause-many c = λ h.
+pub returns-in_err-gather_node-clause-many : goal.returns-in_err-gather_node-clause-many
+returns-in_err-gather_node-clause-many c = λ h.
+    let p = err_from_is_err_and c.from_residual.result c.from_residual.ensures.1 in
+    let passed = sym p.1 ∙ h in
+    let same : p.0 ≡ TooManyRewritings = cc passed in
     node_large (encoded c.args.source.now.ontology.now) c.args.query.now
     c.bytes-name.result.now c.nodes-nodes.result.now c.loop-place.place
     c.index-nodes-place.result (c.bytes-name.ensures ∙ c.name.ensures)
     c.nodes-nodes.ensures.same c.loop-place-test.true c.index-nodes-place.is
-    (c.gather_node.ensures.many (c.in-Err.is ∙ h))
+    (c.in_err-gather_node.ensures.many (ap Err (sym p.2 ∙ same)))
 
 pub loop-place-preserved : goal.loop-place-preserved
 loop-place-preserved c =
@@ -23,4 +28,4 @@ loop-place-preserved c =
     c.loop-place.text.items c.gather_node.new.text.items c.nodes-nodes.result.now
     c.loop-place.place c.index-nodes-place.result
     c.loop-place-test.true c.index-nodes-place.is c.loop-place.invariant
-    c.in-Ok.ensures.gathers
+    c.in_ok-gather_node.ensures.gathers
