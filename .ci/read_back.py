@@ -23,6 +23,8 @@ def of_text(text):
         words = line.split(" ")
         if words[0] == "line" and words[2] == "accepted":
             yield ("accepted", words[1], words[3])
+        elif words[0] == "line" and words[2] == "declared":
+            yield ("declared", words[1], words[3])
         elif words[0] == "line":
             yield ("refused", words[1], words[3], words[4] if len(words) > 4 else "")
         elif words[0] == "answer":
@@ -41,8 +43,10 @@ def of_json(text):
         if "end" in event:
             yield ("end", str(event["accepted"]), str(event["refused"]))
         elif "refused" in event:
-            detail = event.get("name", str(event.get("clash", "")))
+            detail = event.get("name", event.get("units", str(event.get("clash", ""))))
             yield ("refused", str(event["line"]), event["refused"], detail)
+        elif "declared" in event:
+            yield ("declared", str(event["line"]), event["declared"])
         else:
             yield ("accepted", str(event["line"]), str(event["accepted"]))
             for query in event["answers"]:
@@ -61,6 +65,8 @@ def of_csv(text):
             yield ("answer", row["name"], tuple(row["detail"].split()))
         elif row["event"] == "kept":
             yield ("kept", row["name"], row["number"])
+        elif row["event"] == "declared":
+            yield ("declared", row["line"], row["name"])
         elif row["event"] == "refused":
             yield ("refused", row["line"], row["name"], row["detail"] or row["number"])
         else:
@@ -72,6 +78,9 @@ def in_json(line):
     text = line.split("#")[0].strip()
     if not text:
         return ""
+    words = text.split()
+    if words[0] == "individual":
+        return json.dumps({"individual": words[1]} if len(words) == 2 else {})
     facts = FACT.findall(text[4:])
     if not text.startswith("snap") or FACT.sub("", text[4:]).strip():
         return "no object"
