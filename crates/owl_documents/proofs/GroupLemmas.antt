@@ -1,7 +1,7 @@
 -- Groups, token by token.
-use Rattle.std.proofs.Common.{◌≡◌, ℕ, Bool, true, false, cond, eqb, suc, ◌+◌, ◌-◌, ◌≤◌, ◌<◌, List}
-use Rattle.std.proofs.Common.{[], ◌∷◌, length, take, drop, get_or, refl, sym, ap, ◌∙◌, arith}
-use Rattle.std.proofs.Common.{add-one, length-drop, drop-cons, map, Option, Some, None, Result, Ok}
+use Rattle.std.proofs.Common.{◌≡◌, ℕ, Bool, true, false, cond, eqb, ◌+◌, ◌-◌, ◌≤◌, ◌<◌, List}
+use Rattle.std.proofs.Common.{◌∷◌, length, take, drop, get_or, refl, sym, ap, ◌∙◌, arith}
+use Rattle.std.proofs.Common.{add-one, length-drop, drop-cons, map, None}
 use Rattle.std.proofs.Common.{Err}
 use Rattle.std.proofs.lemmas.List.{drop_all, take_all}
 use Rattle.owl_tokens.specs.declared.tokens.TokenKind.{TokenKind}
@@ -10,7 +10,7 @@ use Rattle.owl_tokens.specs.declared.tokens.Token.{Token}
 use Rattle.owl_documents.specs.declared.groups.GroupStep.{GroupStep}
 use Rattle.owl_documents.specs.declared.groups.GroupStep.TheVariants as step
 use Rattle.owl_tokens.specs.Tokens.{Lexeme, lexeme}
-use Rattle.owl_documents.specs.Terms.{Read, group_step, stepped, group_end}
+use Rattle.owl_documents.specs.Terms.{group_step, stepped, group_end}
 
 -- what stands for the token behind the last one
 abbrev pub no_token : Token

@@ -1,8 +1,8 @@
 -- The terms of a document, as they are written: what tokens begin with, and the tokens behind it.
 -- Where no term is written so, the place of the first token that isn't allowed, and none where the
 -- text ends.
-use Rattle.std.specs.Prelude.{ℕ, zero, suc, ◌+◌, ◌-◌, ◌==◌, Bool, true, false, if◌then◌else◌, List}
-use Rattle.std.specs.Prelude.{[], ◌∷◌, Option, Some, None, Result, Ok, Err, codes}
+use Rattle.std.specs.Prelude.{ℕ, ◌+◌, ◌-◌, ◌==◌, Bool, true, false, if◌then◌else◌, List}
+use Rattle.std.specs.Prelude.{[], ◌∷◌, Option, Some, None, Result, Ok, Err}
 use Rattle.std.specs.List.{list_any}
 use Rattle.owl_tokens.specs.declared.tokens.TokenKind.{TokenKind}
 use Rattle.owl_tokens.specs.declared.tokens.TokenKind.TheVariants as kind

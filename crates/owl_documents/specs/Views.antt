@@ -1,5 +1,5 @@
 -- Trees and answers, without where their texts lie in memory.
-use Rattle.std.specs.Prelude.{◌≡◌, ℕ, ◌<◌, ◌≤◌, List, length, map, Option, Some, None, Result, Ok}
+use Rattle.std.specs.Prelude.{◌≡◌, ℕ, List, length, map, Some, None, Result, Ok}
 use Rattle.std.specs.Prelude.{Err}
 use Rattle.owl_documents.specs.declared.groups.Stop.{Stop}
 use Rattle.owl_documents.specs.declared.groups.Stop.TheVariants as stop

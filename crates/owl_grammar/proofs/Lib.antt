@@ -2,4 +2,4 @@ mod Marks
 mod Terms
 mod Lengths
 mod Items
-mod Documents
+pub mod Documents

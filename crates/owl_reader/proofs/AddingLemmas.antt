@@ -1,7 +1,7 @@
 -- Statements, one after the other.
 use Rattle.std.proofs.Common.{◌-◌, length-drop}
 use Rattle.std.specs.Prelude.{◌⊎◌}
-use Rattle.std.proofs.Common.{◌≡◌, ℕ, ◌+◌, ◌≤◌, ◌<◌, Bool, true, false, List, [], ◌∷◌, ◌++◌, length}
+use Rattle.std.proofs.Common.{◌≡◌, ℕ, ◌+◌, ◌≤◌, ◌<◌, false, List, [], ◌∷◌, ◌++◌, length}
 use Rattle.std.proofs.Common.{suc, inl, inr, drop, take, get_or, refl, sym, ap, ◌∙◌, arith, add-one}
 use Rattle.std.proofs.Common.{drop-cons, map, Result, Ok, Err}
 use Rattle.std.proofs.lemmas.List.{drop_all, take_all, length-map, drop-map}

@@ -1,6 +1,6 @@
 -- Items, one after the other.
 use Rattle.std.proofs.Common.{◌≡◌, ℕ, suc, ◌+◌, ◌≤◌, ◌<◌, List, [], ◌∷◌, length, drop, get_or, refl}
-use Rattle.std.proofs.Common.{sym, ap, ◌∙◌, arith, add-one, drop-cons, map, Result, Ok, Err}
+use Rattle.std.proofs.Common.{sym, ap, ◌∙◌, add-one, drop-cons, map, Ok, Err}
 use Rattle.std.proofs.lemmas.List.{drop_all}
 use Rattle.dl_syntax.specs.Ontology.{Declared}
 use Rattle.owl_documents.specs.declared.items.Item.{Item}

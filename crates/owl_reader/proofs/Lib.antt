@@ -3,3 +3,4 @@ pub mod NameLemmas
 mod AddingLemmas
 mod SayingLemmas
 mod ItemLemmas
+pub mod StandingLemmas

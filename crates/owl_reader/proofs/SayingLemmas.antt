@@ -1,7 +1,7 @@
 -- Terms that are said one after the other.
 use Rattle.std.proofs.Common.{◌≡◌, ℕ, ◌+◌, ◌≤◌, ◌<◌, List, [], ◌∷◌, ◌++◌, length, drop, get_or}
-use Rattle.std.proofs.Common.{refl, sym, ap, ◌∙◌, arith, add-one, drop-cons, map, append_assoc}
-use Rattle.std.proofs.Common.{append-nil, Result, Ok, Err}
+use Rattle.std.proofs.Common.{refl, sym, ap, ◌∙◌, add-one, drop-cons, map, append_assoc}
+use Rattle.std.proofs.Common.{append-nil, Ok, Err}
 use Rattle.std.proofs.lemmas.List.{drop_all, map-append}
 use Rattle.owl_reader.specs.declared.entities.SayFault.{SayFault}
 use Rattle.owl_reader.specs.declared.entities.SayFault.TheVariants as fault_of

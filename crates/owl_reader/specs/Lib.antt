@@ -3,3 +3,5 @@ pub mod Statements
 pub mod StatementViews
 pub mod VocabularyViews
 pub mod Reading
+pub mod Standing
+pub mod Laws

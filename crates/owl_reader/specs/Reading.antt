@@ -1,5 +1,5 @@
 -- The ontology that a document stands for, or its first fault.
-use Rattle.std.specs.Prelude.{◌≡◌, ℕ, ◌+◌, ◌-◌, ◌==◌, nat_lt, if◌then◌else◌, List, [], ◌∷◌, length}
+use Rattle.std.specs.Prelude.{◌≡◌, ℕ, ◌+◌, ◌-◌, ◌==◌, nat_lt, if◌then◌else◌, List, length}
 use Rattle.std.specs.Prelude.{take, count_by, Option, Some, None, Result, Ok, Err}
 use Rattle.short_names.specs.Names.{name_in}
 use Rattle.dl_syntax.specs.Ontology.{Declared, nothing_declared}

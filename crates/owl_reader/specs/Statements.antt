@@ -1,5 +1,5 @@
 -- What the items of a document say, in the statements of an ontology.
-use Rattle.std.specs.Prelude.{ℕ, ◌+◌, nat_lt, ◌||◌, ◌&&◌, not, Bool, true, false, if◌then◌else◌}
+use Rattle.std.specs.Prelude.{ℕ, nat_lt, ◌||◌, ◌&&◌, not, Bool, false, if◌then◌else◌}
 use Rattle.std.specs.Prelude.{List, [], ◌∷◌, ◌++◌, map, length, codes, is_some, Option, Some, None}
 use Rattle.std.specs.Prelude.{Result, Ok, Err}
 use Rattle.std.specs.List.{list_all}

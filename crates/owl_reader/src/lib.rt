@@ -4,6 +4,7 @@
 mod axioms;
 mod declarations;
 mod entities;
+pub mod laws;
 mod reading;
 mod refusals;
 #[cfg(test)]

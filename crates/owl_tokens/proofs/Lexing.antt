@@ -8,7 +8,6 @@ use Rattle.owl_tokens.specs.declared.tokens.Piece.TheVariants as piece_of
 use Rattle.owl_tokens.specs.declared.tokens.TokenKind.{TokenKind}
 use Rattle.owl_tokens.specs.declared.tokens.TokenKind.TheVariants as kind
 use Rattle.owl_tokens.specs.declared.tokens.Quote.{Quote}
-use Rattle.owl_tokens.specs.declared.tokens.Quote.TheVariants as quote
 use Rattle.std.specs.Prelude.{map}
 use Rattle.std.proofs.lemmas.List.{map-append}
 use Rattle.owl_tokens.specs.declared.tokens.Token.{Token}

@@ -1,6 +1,6 @@
 -- Prefixes, one after the other.
-use Rattle.std.proofs.Common.{◌≡◌, ℕ, ◌+◌, ◌≤◌, ◌<◌, List, [], ◌∷◌, length, drop, get_or, refl, sym}
-use Rattle.std.proofs.Common.{ap, ◌∙◌, arith, add-one, drop-cons, map}
+use Rattle.std.proofs.Common.{◌≡◌, ℕ, ◌+◌, ◌≤◌, ◌<◌, List, [], length, drop, get_or, refl}
+use Rattle.std.proofs.Common.{ap, ◌∙◌, add-one, drop-cons, map}
 use Rattle.std.proofs.lemmas.List.{drop_all}
 use Rattle.owl_tokens.specs.declared.iris.Prefix.{Prefix}
 use Rattle.owl_tokens.specs.Tables.{Table}

@@ -1,7 +1,5 @@
-use Rattle.std.proofs.Common.{◌≡◌, ℕ, ◌+◌, List, Ok, Err, ap, ◌∙◌, arith, eqb}
-use Rattle.std.specs.Prelude.{length}
+use Rattle.std.proofs.Common.{◌+◌, Ok, ap, ◌∙◌, arith}
 use Rattle.owl_documents.specs.declared.groups.GroupStep.TheVariants as step
-use Rattle.owl_tokens.specs.Tokens.{Lexeme}
 use Rattle.owl_documents.proofs.GroupLemmas.{group_next, group_open, from_place, next_deep}
 use Rattle.owl_documents.proofs.groups.group_end.Goals as goal
 

@@ -1,4 +1,4 @@
-use Rattle.std.proofs.Common.{◌≡◌, map, sym, ◌∙◌, arith}
+use Rattle.std.proofs.Common.{map, sym, ◌∙◌, arith}
 use Rattle.owl_tokens.specs.Tokens.{lexeme}
 use Rattle.owl_documents.proofs.AnnotationLemmas.{passed, stops, none_left}
 use Rattle.owl_documents.proofs.items.behind_annotations.Goals as goal

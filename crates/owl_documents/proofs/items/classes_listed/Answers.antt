@@ -1,11 +1,11 @@
-use Rattle.std.proofs.Common.{◌≡◌, ℕ, ◌+◌, ◌-◌, ◌≤◌, false, length, map, refl, sym, ap, ◌∙◌, arith}
+use Rattle.std.proofs.Common.{◌≡◌, ◌-◌, length, map, refl, sym, ◌∙◌, arith}
 use Rattle.std.proofs.lemmas.List.{length-map}
-use Rattle.owl_tokens.specs.Tokens.{Lexeme, lexeme}
+use Rattle.owl_tokens.specs.Tokens.{lexeme}
 use Rattle.owl_documents.specs.Terms.{term_first, basic_first, class_first}
-use Rattle.owl_documents.specs.Items.{closes, many, up_to_close}
+use Rattle.owl_documents.specs.Items.{closes}
 use Rattle.owl_documents.specs.Views.{class_seen}
 use Rattle.owl_tokens.specs.Tables.{Table}
-use Rattle.owl_documents.proofs.ManyLemmas.{behind_nothing, NeedsTokens, many_ends, loop_next}
+use Rattle.owl_documents.proofs.ManyLemmas.{NeedsTokens, many_ends, loop_next}
 use Rattle.owl_documents.proofs.ManyLemmas.{loop_fails}
 use Rattle.owl_documents.proofs.items.classes_listed.Goals as goal
 

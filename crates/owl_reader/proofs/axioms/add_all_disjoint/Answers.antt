@@ -1,4 +1,4 @@
-use Rattle.std.proofs.Common.{◌≡◌, ◌+◌, ◌-◌, List, ap, ◌∙◌, arith, map, drop, take, length, get_or}
+use Rattle.std.proofs.Common.{◌+◌, ◌-◌, List, ap, ◌∙◌, arith, map, drop, take, length, get_or}
 use Rattle.owl_reader.specs.Statements.{Term, disjoint_terms, all_disjoint, all_added}
 use Rattle.owl_reader.specs.StatementViews.{term_seen}
 use Rattle.owl_reader.proofs.AddingLemmas.{append_added, steps_fail, none_added, pairs_next}

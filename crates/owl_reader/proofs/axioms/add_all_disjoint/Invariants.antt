@@ -1,7 +1,6 @@
 use Rattle.std.proofs.Common.{◌≡◌, ◌-◌, ◌≤◌, length, drop, map}
-use Rattle.owl_reader.specs.Statements.{equivalent, disjoint_terms, all_disjoint, all_added}
+use Rattle.owl_reader.specs.Statements.{all_disjoint, all_added}
 use Rattle.owl_reader.specs.StatementViews.{term_seen}
-use Rattle.owl_reader.proofs.AddingLemmas.{rest_of_cycle}
 use Rattle.owl_reader.proofs.axioms.add_all_disjoint.Given as goal
 
 abbrev pub invariant-loop-place : goal.invariant-loop-place

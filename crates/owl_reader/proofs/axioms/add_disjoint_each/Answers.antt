@@ -1,5 +1,4 @@
-use Rattle.std.proofs.Common.{◌≡◌, ◌+◌, List, ap, ◌∙◌, arith, map, drop}
-use Rattle.ontology_reader.specs.Sayings.{Saying}
+use Rattle.std.proofs.Common.{◌+◌, List, ap, ◌∙◌, arith, map, drop}
 use Rattle.owl_reader.specs.Statements.{Term, disjoint_terms, all_added}
 use Rattle.owl_reader.specs.StatementViews.{term_seen}
 use Rattle.owl_reader.proofs.AddingLemmas.{one_added, step_fails, none_added, each_next, terms_end}

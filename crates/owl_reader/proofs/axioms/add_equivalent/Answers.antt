@@ -1,9 +1,8 @@
-use Rattle.std.proofs.Common.{◌≡◌, ◌+◌, ◌≤◌, ◌<◌, ℕ, List, [], ◌∷◌, refl, sym, ap, ◌∙◌, arith, map}
+use Rattle.std.proofs.Common.{◌≡◌, ◌+◌, ◌≤◌, ◌<◌, ℕ, List, ap, ◌∙◌, arith, map}
 use Rattle.std.proofs.Common.{drop, length, get_or, inl, inr}
 use Rattle.std.specs.Prelude.{◌⊎◌}
-use Rattle.ontology_reader.specs.Sayings.{Saying}
 use Rattle.owl_reader.specs.declared.entities.Term as terms
-use Rattle.owl_reader.specs.Statements.{Term, sub, equivalent, all_added}
+use Rattle.owl_reader.specs.Statements.{Term, sub, all_added}
 use Rattle.owl_reader.specs.StatementViews.{term_seen}
 use Rattle.owl_reader.proofs.AddingLemmas.{rest_of_cycle, one_added, step_fails, none_added}
 use Rattle.owl_reader.proofs.AddingLemmas.{seen_next, equivalent_cycle, cycle_end, terms_end}

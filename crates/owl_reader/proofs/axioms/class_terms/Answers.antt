@@ -1,9 +1,9 @@
-use Rattle.std.proofs.Common.{◌≡◌, sym, ap, ◌∙◌, arith, map}
+use Rattle.std.proofs.Common.{◌∙◌, arith, map}
 use Rattle.owl_reader.specs.Statements.{class_term}
 use Rattle.owl_documents.specs.Views.{class_seen}
 use Rattle.owl_reader.specs.StatementViews.{term_seen, entities_seen}
 use Rattle.owl_reader.proofs.RefusalLemmas.{no_class}
-use Rattle.owl_reader.proofs.SayingLemmas.{behind_nothing, said_next, said_fails, said_end}
+use Rattle.owl_reader.proofs.SayingLemmas.{said_next, said_fails, said_end}
 use Rattle.owl_reader.proofs.axioms.class_terms.Goals as goal
 
 pub each-preserved : goal.each-preserved

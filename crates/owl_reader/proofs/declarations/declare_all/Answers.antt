@@ -1,4 +1,4 @@
-use Rattle.std.proofs.Common.{◌≡◌, sym, ap, ◌∙◌, arith, map}
+use Rattle.std.proofs.Common.{◌∙◌, arith}
 use Rattle.owl_reader.specs.Statements.{item_declared, all_declared}
 use Rattle.owl_reader.specs.VocabularyViews.{vocabulary_seen}
 use Rattle.owl_reader.proofs.ItemLemmas.{item_passes, item_fails, items_end, no_declarations}

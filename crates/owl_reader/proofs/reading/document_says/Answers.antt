@@ -1,4 +1,4 @@
-use Rattle.std.proofs.Common.{List, Ok, subst, map}
+use Rattle.std.proofs.Common.{List, subst, map}
 use Rattle.owl_documents.specs.declared.items.Item.{Item}
 use Rattle.owl_documents.specs.ItemViews.{item_seen}
 use Rattle.owl_reader.specs.Refusals.{first_of, in_item}

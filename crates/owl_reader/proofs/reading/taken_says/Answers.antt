@@ -1,4 +1,4 @@
-use Rattle.std.proofs.Common.{◌≡◌, ℕ, List, Option, None, Result, Ok, Err, sym, ap, ◌∙◌, map}
+use Rattle.std.proofs.Common.{◌≡◌, ℕ, List, Option, Result, Err, sym, ap, ◌∙◌, map}
 use Rattle.dl_syntax.specs.Ontology.{Declared}
 use Rattle.owl_reader.specs.declared.entities.SayFault.{SayFault}
 use Rattle.owl_reader.specs.declared.entities.SayFault.TheVariants as say
@@ -9,7 +9,7 @@ use Rattle.owl_documents.specs.Documents.{Document}
 use Rattle.owl_documents.specs.ItemViews.{item_seen}
 use Rattle.owl_reader.specs.Statements.{Said}
 use Rattle.owl_reader.specs.StatementViews.{Says}
-use Rattle.owl_reader.specs.Reading.{Fault, FaultAt, fault_of, line_of, taken_says, with_lines}
+use Rattle.owl_reader.specs.Reading.{Fault, FaultAt, fault_of, taken_says, with_lines}
 use Rattle.owl_reader.specs.Reading.{IsFlawed, Tells}
 use Rattle.owl_reader.proofs.reading.taken_says.Goals as goal
 

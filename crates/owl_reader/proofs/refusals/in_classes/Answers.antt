@@ -1,4 +1,4 @@
-use Rattle.std.proofs.Common.{sym, ◌∙◌, ap, arith}
+use Rattle.std.proofs.Common.{sym, ◌∙◌, arith}
 use Rattle.owl_reader.specs.Refusals.{in_class}
 use Rattle.owl_documents.specs.Views.{class_seen}
 use Rattle.owl_reader.proofs.RefusalLemmas.{found_here, none_here, none_left, no_class}

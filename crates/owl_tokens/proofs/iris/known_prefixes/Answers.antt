@@ -1,4 +1,4 @@
-use Rattle.std.proofs.Common.{◌≡◌, ◌+◌, ℕ, List, sym, ap, ◌∙◌, arith, map, drop}
+use Rattle.std.proofs.Common.{◌+◌, sym, ap, ◌∙◌, arith, map, drop}
 use Rattle.owl_tokens.specs.Tables.{Table}
 use Rattle.owl_tokens.specs.Iris.{with_prefixes}
 use Rattle.owl_tokens.specs.IriViews.{prefix_seen}

@@ -1,8 +1,6 @@
-use Rattle.std.proofs.Common.{◌≡◌, ℕ, ◌+◌, List, [], ◌∷◌, ◌++◌, map, take, drop, sym, ap, ◌∙◌}
-use Rattle.std.proofs.Common.{arith, append_assoc, append-nil}
-use Rattle.std.proofs.lemmas.List.{map-append}
+use Rattle.std.proofs.Common.{◌+◌, List, [], ◌∷◌, ◌++◌, map, drop, sym, ap, ◌∙◌}
+use Rattle.std.proofs.Common.{arith, append-nil}
 use Rattle.owl_tokens.specs.Tokens.{Lexeme, lexeme, lexed}
-use Rattle.owl_tokens.specs.declared.tokens.Token.{Token}
 use Rattle.owl_tokens.proofs.Lexing.{gap_passed, token_first, fault_there, nothing_left, pushed}
 use Rattle.owl_tokens.proofs.tokens.scan.Goals as goal
 

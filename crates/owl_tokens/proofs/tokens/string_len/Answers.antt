@@ -1,6 +1,5 @@
-use Rattle.std.proofs.Common.{◌≡◌, ℕ, suc, ◌+◌, ◌-◌, Bool, false, drop, Some, sym, ap, ◌∙◌, arith}
+use Rattle.std.proofs.Common.{◌≡◌, ℕ, suc, ◌+◌, ◌-◌, false, drop, sym, ap, ◌∙◌, arith}
 use Rattle.std.proofs.Common.{add-one}
-use Rattle.std.specs.Prelude.{Option}
 use Rattle.owl_tokens.specs.declared.tokens.Quote.TheVariants as quote
 use Rattle.owl_tokens.specs.Tokens.{string_len}
 use Rattle.owl_tokens.proofs.Lexing.{behind, behind_none, counted_on, string_first, string_open}

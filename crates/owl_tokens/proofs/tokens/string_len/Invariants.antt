@@ -1,4 +1,4 @@
-use Rattle.std.proofs.Common.{◌≡◌, ◌+◌, ◌-◌, ◌≤◌, length, drop, false}
+use Rattle.std.proofs.Common.{◌≡◌, ◌-◌, ◌≤◌, length, drop, false}
 use Rattle.owl_tokens.specs.Tokens.{string_len}
 use Rattle.owl_tokens.proofs.Lexing.{behind}
 use Rattle.owl_tokens.proofs.tokens.string_len.Given as goal

@@ -1,6 +1,6 @@
-use Rattle.std.proofs.Common.{◌≡◌, ℕ, List, sym, ◌∙◌, ap}
-use Rattle.owl_tokens.specs.Tables.{Table, put}
-use Rattle.owl_tokens.proofs.TableLemmas.{Texts, seen, inserted}
+use Rattle.std.proofs.Common.{ℕ, List, ◌∙◌, ap}
+use Rattle.owl_tokens.specs.Tables.{put}
+use Rattle.owl_tokens.proofs.TableLemmas.{seen, inserted}
 use Rattle.owl_tokens.proofs.tables.Table.put.Goals as goal
 
 pub returns : goal.returns
