@@ -1,12 +1,11 @@
 -- Sources say one setting, and those without a fault are opened but for want of memory.
-use Rattle.std.proofs.Common.{◌≡◌, ℕ, inl, inr, None, Some, Result, Ok, Err, List, refl, sym, ◌∙◌}
-use Rattle.std.proofs.Common.{ap, subst}
+use Rattle.std.proofs.Common.{◌≡◌, ℕ, Bool, true, false, inl, inr, None, Some, Ok, List}
+use Rattle.std.proofs.Common.{sym, ◌∙◌}
+use Rattle.std.proofs.Common.{ap, refl, subst}
 use Rattle.std.specs.declared.option.Option.{Option}
 use Rattle.dl_syntax.specs.Ontology.{Declared}
 use Rattle.tcq_syntax.specs.Tcq.{Tcq}
 use Rattle.edge_io.specs.Held.{Store, Lacks}
-use Rattle.ontology_reader.specs.declared.OntologyKind.{OntologyKind}
-use Rattle.ontology_reader.specs.Texts.{text_says}
 use Rattle.tcq_reader.specs.Reading.{SaysQueries}
 use Rattle.tcq_reader.proofs.OneReading.{one_saying, said_have_no_fault}
 use Rattle.monitor_core.specs.Setting.{Setting}
@@ -15,29 +14,49 @@ use Rattle.stream_report.specs.declared.ending.Ending.TheVariants.{Done, Usage, 
 use Rattle.stream_report.specs.declared.ending.Ending.TheVariants.{WriteFault, Memory, StreamLimit}
 use Rattle.job_sources.specs.declared.refusal.Refusal.{Refusal}
 use Rattle.job_sources.specs.declared.refusal.Refusal.TheVariants.{BadOntology, TooManyRewritings}
-use Rattle.job_sources.specs.declared.refusal.Refusal.TheVariants.{BadQueries, NotALeaf}
-use Rattle.job_sources.specs.Opening.{HasText, Is}
+use Rattle.job_sources.specs.declared.refusal.Refusal.TheVariants.{BadDocument, BadQueries}
+use Rattle.job_sources.specs.declared.refusal.Refusal.TheVariants.{NotALeaf}
+use Rattle.job_sources.specs.OntologyForms.{SaysAs, IsFaultyAs}
+use Rattle.job_sources.specs.Opening.{HasText}
 use Rattle.job_sources.specs.Sources.{AreTooMany}
-use Rattle.job_sources.specs.Sources.{Says, AreFaulty, nothing_more, IsRefused, Opens, OpeningFails}
-use Rattle.job_sources.specs.Sources.{FilesSay, FilesUnread, TextsUnread}
+use Rattle.job_sources.specs.Sources.{Says, AreFaulty, IsRefused, Opens, OpeningFails}
 
-no_ok : (result : Result Declared (ℕ × OntologyKind)) (line : ℕ) (kind : OntologyKind)
-    (said : Declared) → result ≡ Err (line, kind) → result ≡ Ok said → ⊥
-no_ok result line kind said is ok = let both = sym is ∙ ok in cc
+-- a text says one ontology
+one_ontology_said : (owl : Bool) (text : List ℕ) (one other : Declared) → SaysAs owl text one
+    → SaysAs owl text other → one ≡ other
+one_ontology_said true text one other says too =
+    let both : Ok one ≡ Ok other = sym says ∙ too in cc
+one_ontology_said false text one other says too =
+    let both : Ok one ≡ Ok other = sym says ∙ too in cc
 
-module _ (is_ontology is_queries : List ℕ → Type 0) (one_ontology : (a b : List ℕ) → is_ontology a
-    → is_ontology b → a ≡ b) (one_queries : (a b : List ℕ) → is_queries a → is_queries b
-    → a ≡ b) where
+-- and it has no fault then
+no_ontology_fault : (owl : Bool) (text : List ℕ) (refusal : Refusal) (said : Declared)
+    → IsFaultyAs owl text refusal → SaysAs owl text said → ⊥
+no_ontology_fault true text (BadDocument line kind) said fault says =
+    let both = sym fault ∙ says in cc
+no_ontology_fault true text (BadOntology line kind) said fault says = fault
+no_ontology_fault true text TooManyRewritings said fault says = fault
+no_ontology_fault true text (BadQueries line kind) said fault says = fault
+no_ontology_fault true text (NotALeaf name) said fault says = fault
+no_ontology_fault false text (BadOntology line kind) said fault says =
+    let both = sym fault ∙ says in cc
+no_ontology_fault false text (BadDocument line kind) said fault says = fault
+no_ontology_fault false text TooManyRewritings said fault says = fault
+no_ontology_fault false text (BadQueries line kind) said fault says = fault
+no_ontology_fault false text (NotALeaf name) said fault says = fault
+
+module _ (owl : Bool) (is_ontology is_queries : List ℕ → Type 0) (one_ontology : (a b : List ℕ)
+    → is_ontology a → is_ontology b → a ≡ b) (one_queries : (a b : List ℕ) → is_queries a
+    → is_queries b → a ≡ b) where
   same_ontology : (one other : List ℕ) (said later : Declared) → is_ontology one → is_ontology other
-      → text_says one ≡ Ok said → text_says other ≡ Ok later → said ≡ later
+      → SaysAs owl one said → SaysAs owl other later → said ≡ later
   same_ontology one other said later is there says too =
-      let both : Ok said ≡ Ok later =
-      sym says ∙ (ap text_says (one_ontology one other is there) ∙ too) in
-      cc
+      one_ontology_said owl other said later
+      (subst (λ (t : List ℕ). SaysAs owl t said) (one_ontology one other is there) says) too
 
   -- sources say one setting
-  pub same_setting : (one other : Setting) → Says is_ontology is_queries one
-      → Says is_ontology is_queries other → one ≡ other
+  pub same_setting : (one other : Setting) → Says owl is_ontology is_queries one
+      → Says owl is_ontology is_queries other → one ≡ other
   same_setting one other p q =
       let ontology : one.ontology ≡ other.ontology =
       same_ontology p.ontology q.ontology one.ontology other.ontology p.ontology_is
@@ -60,13 +79,20 @@ module _ (is_ontology is_queries : List ℕ → Type 0) (one_ontology : (a b : L
       }) queries
 
   module _ (own : Setting → Refusal
-      → Type 0) (setting : Setting) (opens : Opens own (Says is_ontology is_queries) setting) where
+      → Type 0) (setting : Setting)
+      (opens : Opens own (Says owl is_ontology is_queries) setting) where
     -- sources that open have no fault
-    pub never_faulty : (refusal : Refusal) → ¬ AreFaulty is_ontology is_queries refusal
+    pub never_faulty : (refusal : Refusal) → ¬ AreFaulty owl is_ontology is_queries refusal
     never_faulty (BadOntology line kind) bad =
-        no_ok (text_says bad.text) line kind setting.ontology bad.fault
-        (ap text_says (one_ontology bad.text opens.say.ontology bad.is
-        opens.say.ontology_is) ∙ opens.say.ontology_says)
+        no_ontology_fault owl opens.say.ontology (BadOntology line kind) setting.ontology
+        (subst (λ (t : List ℕ). IsFaultyAs owl t (BadOntology line kind))
+        (one_ontology bad.text opens.say.ontology bad.is opens.say.ontology_is) bad.fault)
+        opens.say.ontology_says
+    never_faulty (BadDocument line kind) bad =
+        no_ontology_fault owl opens.say.ontology (BadDocument line kind) setting.ontology
+        (subst (λ (t : List ℕ). IsFaultyAs owl t (BadDocument line kind))
+        (one_ontology bad.text opens.say.ontology bad.is opens.say.ontology_is) bad.fault)
+        opens.say.ontology_says
     never_faulty TooManyRewritings bad = bad
     never_faulty (NotALeaf name) bad = bad
     never_faulty (BadQueries line kind) bad =
@@ -81,7 +107,7 @@ module _ (is_ontology is_queries : List ℕ → Type 0) (one_ontology : (a b : L
         opens.say.queries_say) in
         said_have_no_fault bad.ontology bad.text setting.queries line kind says bad.fault
 
-    never_refused : (other : Setting) (refusal : Refusal) → Says is_ontology is_queries other
+    never_refused : (other : Setting) (refusal : Refusal) → Says owl is_ontology is_queries other
         → ¬ IsRefused own other (Refused refusal)
     never_refused other refusal say (inl refuses) =
         opens.taken refusal (subst (λ (s : Setting).
@@ -92,7 +118,7 @@ module _ (is_ontology is_queries : List ℕ → Type 0) (one_ontology : (a b : L
     -- the opening fails for want of memory alone, where reading the sources does
     pub only_memory : (unread : Ending Refusal → Type 0)
         → ((ending : Ending Refusal) → unread ending → ending ≡ Memory) → (ending : Ending Refusal)
-        → OpeningFails own (Says is_ontology is_queries) unread ending → ending ≡ Memory
+        → OpeningFails own (Says owl is_ontology is_queries) unread ending → ending ≡ Memory
     only_memory unread memory ending (inl fails) = memory ending fails
     only_memory unread memory Memory (inr refused) = refl
     only_memory unread memory (Refused refusal) (inr refused) =

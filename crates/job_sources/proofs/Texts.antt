@@ -1,6 +1,7 @@
 -- Files whose first bytes were fetched, and what their texts say.
 use Rattle.std.proofs.Common.{◌≡◌, ℕ, ◌+◌, ◌<◌, ◌≤◌, ◌⊎◌, inl, inr, true, cond, Option, None, Some}
-use Rattle.std.proofs.Common.{Err, List, length, take, refl, sym, ◌∙◌, ap, subst, arith}
+use Rattle.std.proofs.Common.{Bool, false, Err, List, length, take, refl, sym, ◌∙◌, ap, subst}
+use Rattle.std.proofs.Common.{arith}
 use Rattle.std.specs.Prelude.{nat_lt, IsSomeAnd}
 use Rattle.std.proofs.lemmas.Bool.Decides.{nat_tests}
 use Rattle.std.proofs.lemmas.List.{take_all, length-take}
@@ -10,8 +11,15 @@ use Rattle.tcq_syntax.specs.Tcq.{Tcq}
 use Rattle.edge_io.specs.Held.{Store, IsFetched}
 use Rattle.ontology_reader.specs.declared.OntologyKind.TheVariants.{TooLong}
 use Rattle.ontology_reader.specs.Texts.{text_says, lines_added}
+use Rattle.owl_reader.specs.Reading.{text_says as document_says}
+use Rattle.owl_reader.proofs.StandingLemmas.{long_says}
 use Rattle.tcq_reader.specs.declared.faults.QueryKind.{QueryKind}
 use Rattle.tcq_reader.specs.Reading.{SaysQueries, IsFault}
+use Rattle.job_sources.specs.declared.refusal.Refusal.{Refusal}
+use Rattle.job_sources.specs.declared.refusal.Refusal.TheVariants.{BadOntology, BadDocument}
+use Rattle.job_sources.specs.declared.refusal.Refusal.TheVariants.{BadQueries, NotALeaf}
+use Rattle.job_sources.specs.declared.refusal.Refusal.TheVariants.{TooManyRewritings}
+use Rattle.job_sources.specs.OntologyForms.{SaysAs, IsFaultyAs}
 use Rattle.job_sources.specs.Opening.{HasText}
 use Rattle.job_sources.proofs.LongTexts.{fault_too_long}
 
@@ -50,10 +58,34 @@ too_long text long =
     let test : nat_lt 4194304 (length text) ≡ true = grind (arith, nat_tests) in
     ap (λ b. cond b (Err (0, TooLong)) (lines_added 0 nothing_declared (lines_of text))) test
 
-pub same_ontology : (text bytes : List ℕ) → Cut 4194304 text bytes
-    → text_says text ≡ text_says bytes
-same_ontology text bytes (inl same) = ap text_says same
-same_ontology text bytes (inr long) = too_long text long.0 ∙ sym (too_long bytes long.1)
+same_lines : (text bytes : List ℕ) → Cut 4194304 text bytes → text_says text ≡ text_says bytes
+same_lines text bytes (inl same) = ap text_says same
+same_lines text bytes (inr long) = too_long text long.0 ∙ sym (too_long bytes long.1)
+
+same_document : (text bytes : List ℕ) → Cut 4194304 text bytes
+    → document_says text ≡ document_says bytes
+same_document text bytes (inl same) = ap document_says same
+same_document text bytes (inr long) =
+    long_says text long.0 ∙ sym (long_says bytes long.1)
+
+pub said_there : (owl : Bool) (text bytes : List ℕ) (ontology : Declared) → Cut 4194304 text bytes
+    → SaysAs owl bytes ontology → SaysAs owl text ontology
+said_there true text bytes ontology cut says = same_document text bytes cut ∙ says
+said_there false text bytes ontology cut says = same_lines text bytes cut ∙ says
+
+pub faulty_there : (owl : Bool) (text bytes : List ℕ) (refusal : Refusal) → Cut 4194304 text bytes
+    → IsFaultyAs owl bytes refusal → IsFaultyAs owl text refusal
+faulty_there true text bytes (BadDocument line kind) cut fault =
+    same_document text bytes cut ∙ fault
+faulty_there true text bytes (BadOntology line kind) cut fault = absurd fault
+faulty_there true text bytes TooManyRewritings cut fault = absurd fault
+faulty_there true text bytes (BadQueries line kind) cut fault = absurd fault
+faulty_there true text bytes (NotALeaf name) cut fault = absurd fault
+faulty_there false text bytes (BadOntology line kind) cut fault = same_lines text bytes cut ∙ fault
+faulty_there false text bytes (BadDocument line kind) cut fault = absurd fault
+faulty_there false text bytes TooManyRewritings cut fault = absurd fault
+faulty_there false text bytes (BadQueries line kind) cut fault = absurd fault
+faulty_there false text bytes (NotALeaf name) cut fault = absurd fault
 
 pub queries_there : (ontology : Declared) (text bytes : List ℕ) (queries : List Tcq)
     → Cut 4194304 text bytes → SaysQueries ontology bytes queries

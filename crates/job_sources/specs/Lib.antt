@@ -1,6 +1,6 @@
 pub mod FileNames
-pub mod Names
 pub mod Opening
+pub mod OntologyForms
 pub mod Sayings
 pub mod Sources
 pub mod Ends

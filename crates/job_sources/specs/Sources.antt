@@ -1,11 +1,9 @@
 -- The opening: what the sources of a job say, or why they can't be used, in the order of opening.
-use Rattle.std.specs.Prelude.{◌≡◌, ◌⊎◌, ℕ, false, List, Option, Ok, Err}
+use Rattle.std.specs.Prelude.{◌≡◌, ◌⊎◌, ℕ, Bool, false, List, Option}
 use Rattle.dl_syntax.specs.Ontology.{Declared}
 use Rattle.tcq_syntax.specs.Histories.{empty_history}
 use Rattle.edge_io.specs.Causes.{Rose}
 use Rattle.edge_io.specs.Held.{Store, Lacks}
-use Rattle.ontology_reader.specs.declared.OntologyKind.{OntologyKind}
-use Rattle.ontology_reader.specs.Texts.{text_says}
 use Rattle.tcq_reader.specs.declared.faults.QueryKind.{QueryKind}
 use Rattle.tcq_reader.specs.Reading.{SaysQueries, IsFault}
 use Rattle.monitor_core.specs.Opening.{HasMoreRewritings}
@@ -18,50 +16,58 @@ use Rattle.stream_report.specs.declared.ending.Ending.TheVariants.{Refused, Read
 use Rattle.stream_report.specs.Outside.{FilesTold}
 use Rattle.job_sources.specs.declared.refusal.Refusal.{Refusal}
 use Rattle.job_sources.specs.declared.refusal.Refusal.TheVariants.{BadOntology, TooManyRewritings}
-use Rattle.job_sources.specs.declared.refusal.Refusal.TheVariants.{BadQueries, NotALeaf}
+use Rattle.job_sources.specs.declared.refusal.Refusal.TheVariants.{BadDocument, BadQueries}
+use Rattle.job_sources.specs.declared.refusal.Refusal.TheVariants.{NotALeaf}
 use Rattle.job_sources.specs.FileNames.{FileNames}
+use Rattle.job_sources.specs.OntologyForms.{SaysAs, IsFaultyAs}
 use Rattle.job_sources.specs.Opening.{HasText, Is}
 
--- ---- the texts of the ontology and of the queries, each told by what it has to be
+-- ---- the texts of the ontology and of the queries, each told by what it has to be, and whether
+-- the ontology is an OWL 2 document
 
 -- both have no fault, and say this
-pub record Says (is_ontology is_queries : List ℕ → Type 0) (setting : Setting) : Type 0 where
+pub record Says (owl : Bool) (is_ontology is_queries : List ℕ
+    → Type 0) (setting : Setting) : Type 0 where
   pub ontology : List ℕ
   pub ontology_is : is_ontology ontology
-  pub ontology_says : text_says ontology ≡ Ok setting.ontology
+  pub ontology_says : SaysAs owl ontology setting.ontology
   pub queries : List ℕ
   pub queries_is : is_queries queries
   pub queries_say : SaysQueries setting.ontology queries setting.queries
 
 -- the ontology's text has this first fault
-pub record HasOntologyFault (is_ontology : List ℕ
-    → Type 0) (line : ℕ) (kind : OntologyKind) : Type 0 where
+pub record HasOntologyFault (owl : Bool) (is_ontology : List ℕ
+    → Type 0) (refusal : Refusal) : Type 0 where
   pub text : List ℕ
   pub is : is_ontology text
-  pub fault : text_says text ≡ Err (line, kind)
+  pub fault : IsFaultyAs owl text refusal
 
 -- the ontology's text has no fault, and says this
-pub record SaysOntology (is_ontology : List ℕ → Type 0) (ontology : Declared) : Type 0 where
+pub record SaysOntology (owl : Bool) (is_ontology : List ℕ
+    → Type 0) (ontology : Declared) : Type 0 where
   pub text : List ℕ
   pub is : is_ontology text
-  pub says : text_says text ≡ Ok ontology
+  pub says : SaysAs owl text ontology
 
 -- the ontology's text has no fault, and the queries' text has this first one
-pub record HasQueriesFault (is_ontology is_queries : List ℕ
+pub record HasQueriesFault (owl : Bool) (is_ontology is_queries : List ℕ
     → Type 0) (line : ℕ) (kind : QueryKind) : Type 0 where
   pub ontology : Declared
-  pub says : SaysOntology is_ontology ontology
+  pub says : SaysOntology owl is_ontology ontology
   pub text : List ℕ
   pub is : is_queries text
   pub fault : IsFault ontology text line kind
 
 -- the texts have a fault, and this is the first
-abbrev pub AreFaulty : (List ℕ → Type 0) → (List ℕ → Type 0) → Refusal → Type 0
-AreFaulty is_ontology is_queries (BadOntology line kind) = HasOntologyFault is_ontology line kind
-AreFaulty is_ontology is_queries (BadQueries line kind) =
-    HasQueriesFault is_ontology is_queries line kind
-AreFaulty is_ontology is_queries TooManyRewritings = ⊥
-AreFaulty is_ontology is_queries (NotALeaf name) = ⊥
+abbrev pub AreFaulty : Bool → (List ℕ → Type 0) → (List ℕ → Type 0) → Refusal → Type 0
+AreFaulty owl is_ontology is_queries (BadOntology line kind) =
+    HasOntologyFault owl is_ontology (BadOntology line kind)
+AreFaulty owl is_ontology is_queries (BadDocument line kind) =
+    HasOntologyFault owl is_ontology (BadDocument line kind)
+AreFaulty owl is_ontology is_queries (BadQueries line kind) =
+    HasQueriesFault owl is_ontology is_queries line kind
+AreFaulty owl is_ontology is_queries TooManyRewritings = ⊥
+AreFaulty owl is_ontology is_queries (NotALeaf name) = ⊥
 
 -- ---- what a job takes of what they say
 
@@ -103,27 +109,29 @@ OpeningFails own says unread ending =
 -- what the files of these names say
 abbrev pub FilesSay : Option Store → FileNames → Setting → Type 0
 FilesSay held names setting =
-    Says (HasText held names.ontology) (HasText held names.queries) setting
+    Says names.owl (HasText held names.ontology) (HasText held names.queries) setting
 
 -- a file wasn't fetched. The queries' file counts only after an ontology without a fault
 abbrev pub IsUnfetched : FilesTold → FilesTold → FileNames → Type 0
 IsUnfetched before now names =
     Rose before.faults now.faults
     ⊎ Lacks before.held names.ontology
-    ⊎ (((ontology : Declared) × SaysOntology (HasText before.held names.ontology) ontology)
+    ⊎ (((ontology : Declared)
+    × SaysOntology names.owl (HasText before.held names.ontology) ontology)
     × Lacks before.held names.queries)
 
 -- why files weren't read
 abbrev pub FilesUnread : FilesTold → FilesTold → FileNames → Ending Refusal → Type 0
 FilesUnread before now names (Refused refusal) =
-    AreFaulty (HasText before.held names.ontology) (HasText before.held names.queries) refusal
+    AreFaulty names.owl (HasText before.held names.ontology) (HasText before.held names.queries)
+    refusal
 FilesUnread before now names ReadFault = IsUnfetched before now names
 FilesUnread before now names Memory = Unit {0}
 FilesUnread before now names _ = ⊥
 
--- why these texts weren't read
+-- why these texts weren't read, of which the ontology's is in its own form
 abbrev pub TextsUnread : List ℕ → List ℕ → Ending Refusal → Type 0
-TextsUnread ontology queries (Refused refusal) = AreFaulty (Is ontology) (Is queries) refusal
+TextsUnread ontology queries (Refused refusal) = AreFaulty false (Is ontology) (Is queries) refusal
 TextsUnread ontology queries Memory = Unit {0}
 TextsUnread ontology queries _ = ⊥
 
@@ -136,10 +144,10 @@ IsFetchRefused before now name Memory = Unit {0}
 IsFetchRefused before now name _ = ⊥
 
 -- the run ends at a fault of the ontology's text
-abbrev pub IsOntologyAtFault : List ℕ → Ending Refusal → Type 0
-IsOntologyAtFault text (Refused (BadOntology line kind)) = text_says text ≡ Err (line, kind)
-IsOntologyAtFault text Memory = Unit {0}
-IsOntologyAtFault text _ = ⊥
+abbrev pub IsOntologyAtFault : Bool → List ℕ → Ending Refusal → Type 0
+IsOntologyAtFault owl text (Refused refusal) = IsFaultyAs owl text refusal
+IsOntologyAtFault owl text Memory = Unit {0}
+IsOntologyAtFault owl text _ = ⊥
 
 -- the run ends at a fault of the queries' text
 abbrev pub AreQueriesAtFault : Declared → List ℕ → Ending Refusal → Type 0

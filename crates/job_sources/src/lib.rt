@@ -9,5 +9,5 @@ mod sources;
 
 pub use names::Names;
 pub use opening::{REWRITING_LIMIT, open_files, open_texts};
-pub use refusal::{QueryName, Refusal};
+pub use refusal::Refusal;
 pub use sources::{Sources, read_sources, read_texts};

@@ -5,4 +5,6 @@
 pub struct Names<'a> {
     pub ontology: &'a str,
     pub queries: &'a str,
+    /// Whether the ontology is an OWL 2 document in functional-style syntax.
+    pub owl: bool,
 }

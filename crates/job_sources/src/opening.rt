@@ -62,15 +62,16 @@ pub fn open_files<F: Files>(
     }
 }
 
-/// The monitor of these texts, before any snapshot and any name, or how the run ends.
+/// The monitor of these texts, of which the ontology's is in its own form, before any snapshot and
+/// any name, or how the run ends.
 pub fn open_texts(
     alloc: Global,
     ontology: &[u8],
     queries: &[u8],
 ) -> Result<Monitor, Ending<Refusal>>
-    ensures opens { IfOk result (Opened (Says (Is ontology.now) (Is queries.now))) }
+    ensures opens { IfOk result (Opened (Says false (Is ontology.now) (Is queries.now))) }
     ensures refuses { IfErr result (OpeningFails nothing_more
-        (Says (Is ontology.now) (Is queries.now)) (TextsUnread ontology.now queries.now)) }
+        (Says false (Is ontology.now) (Is queries.now)) (TextsUnread ontology.now queries.now)) }
 {
     let sources = match read_texts(alloc, ontology, queries) {
         Ok(sources) => sources,

@@ -1,13 +1,13 @@
 //! The ontology and the queries of the files that the words name, whatever they say.
 
-ghost use Rattle.std.specs.Prelude.{◌≡◌, ◌≤◌, Ok, IfOk, IfErr, MatchResult};
+ghost use Rattle.std.specs.Prelude.{◌≡◌, ◌≤◌, false, true, IfOk, IfErr, MatchResult};
 ghost use Rattle.edge_io.specs.Held.{IsFetched};
 ghost use Rattle.tcq_syntax.specs.Within.{AreWithin};
 ghost use Rattle.report_text.specs.Names.{AreSpelled};
-ghost use Rattle.ontology_reader.specs.Texts.{text_says};
 ghost use Rattle.tcq_reader.specs.Reading.{SaysQueries};
 ghost use Rattle.job_sources.specs.FileNames.{file_names};
 ghost use Rattle.job_sources.specs.Sayings.{setting_in};
+ghost use Rattle.job_sources.specs.OntologyForms.{SaysAs};
 ghost use Rattle.job_sources.specs.Opening.{Is};
 ghost use Rattle.job_sources.specs.Sources.{IsOntologyAtFault, AreQueriesAtFault, IsFetchRefused};
 ghost use Rattle.job_sources.specs.Sources.{Says, FilesSay, FilesUnread, TextsUnread};
@@ -18,6 +18,7 @@ use crate::refusal::Refusal;
 use dl_syntax::Ontology;
 use edge_io::{FetchFault, Files};
 use ontology_reader::{OntologyFault, read_ontology};
+use owl_reader::{OwlFault, read_owl};
 use std::alloc::Global;
 use stream_report::Ending;
 use tcq_reader::{QueryFault, read_queries};
@@ -49,10 +50,22 @@ fn fetch<F: Files>(alloc: Global, files: &mut F, name: &str) -> Result<Vec<u8>, 
     }
 }
 
-/// The ontology of the text, or how the run ends.
-fn ontology_of(alloc: Global, text: &[u8]) -> Result<Ontology, Ending<Refusal>>
-    ensures { MatchResult result
-        (λ ontology. text_says text.now ≡ Ok ontology) (IsOntologyAtFault text.now) }
+/// The ontology of a text that is an OWL 2 document, or how the run ends.
+fn document_of(alloc: Global, text: &[u8]) -> Result<Ontology, Ending<Refusal>>
+    ensures { MatchResult result (SaysAs true text.now) (IsOntologyAtFault true text.now) }
+{
+    match read_owl(alloc, text) {
+        Ok(ontology) => Ok(ontology),
+        Err(OwlFault::Bad { line, kind }) => {
+            Err(Ending::Refused(Refusal::BadDocument(line, kind)))
+        }
+        Err(OwlFault::Memory) => Err(Ending::Memory),
+    }
+}
+
+/// The ontology of a text in the ontology's own form, or how the run ends.
+fn lines_of(alloc: Global, text: &[u8]) -> Result<Ontology, Ending<Refusal>>
+    ensures { MatchResult result (SaysAs false text.now) (IsOntologyAtFault false text.now) }
 {
     match read_ontology(alloc, text) {
         Ok(ontology) => Ok(ontology),
@@ -60,6 +73,17 @@ fn ontology_of(alloc: Global, text: &[u8]) -> Result<Ontology, Ending<Refusal>>
             line, kind,
         ))),
         Err(OntologyFault::Memory) => Err(Ending::Memory),
+    }
+}
+
+/// The ontology of the text, or how the run ends.
+fn ontology_of(alloc: Global, owl: bool, text: &[u8]) -> Result<Ontology, Ending<Refusal>>
+    ensures { MatchResult result (SaysAs owl text.now) (IsOntologyAtFault owl text.now) }
+{
+    if owl {
+        document_of(alloc, text)
+    } else {
+        lines_of(alloc, text)
     }
 }
 
@@ -100,7 +124,7 @@ pub fn read_sources<F: Files>(
         Ok(text) => text,
         Err(ending) => return Err(ending),
     };
-    let ontology = match ontology_of(alloc, &text) {
+    let ontology = match ontology_of(alloc, names.owl, &text) {
         Ok(ontology) => ontology,
         Err(ending) => return Err(ending),
     };
@@ -114,19 +138,19 @@ pub fn read_sources<F: Files>(
     }
 }
 
-/// What these texts say, or how the run ends.
+/// What these texts say, of which the ontology's is in its own form, or how the run ends.
 pub fn read_texts(
     alloc: Global,
     ontology: &[u8],
     queries: &[u8],
 ) -> Result<Sources, Ending<Refusal>>
     ensures say { IfOk result (λ sources.
-        Says (Is ontology.now) (Is queries.now) (setting_in sources)) }
+        Says false (Is ontology.now) (Is queries.now) (setting_in sources)) }
     ensures within { IfOk result (λ sources. AreWithin sources.ontology sources.queries.items) }
     ensures spelled { IfOk result (λ sources. AreSpelled sources.queries.items) }
     ensures refuses { IfErr result (TextsUnread ontology.now queries.now) }
 {
-    let said = match ontology_of(alloc, ontology) {
+    let said = match lines_of(alloc, ontology) {
         Ok(ontology) => ontology,
         Err(ending) => return Err(ending),
     };

@@ -1,4 +1,4 @@
-use Rattle.std.proofs.Common.{sym, subst}
+use Rattle.std.proofs.Common.{false, sym, subst}
 use Rattle.report_text.specs.Names.{AreSpelled}
 use Rattle.monitor_core.specs.Setting.{Setting}
 use Rattle.job_sources.specs.Opening.{Is}
@@ -8,7 +8,7 @@ use Rattle.job_sources.proofs.opening.open_texts.Goals as goal
 
 pub returns-in-Ok-monitor_of-clause-opens : goal.returns-in-Ok-monitor_of-clause-opens
 returns-in-Ok-monitor_of-clause-opens c =
-    let says : Setting → Type 0 = Says (Is c.args.ontology.now) (Is c.args.queries.now) in
+    let says : Setting → Type 0 = Says false (Is c.args.ontology.now) (Is c.args.queries.now) in
     let opens : Opens nothing_more says (setting_in c.in-Ok.sources) =
     record {
       say = c.in-Ok.ensures.say;
