@@ -2,6 +2,8 @@
 pub mod Lookups
 pub mod Sides
 pub mod Lists
+pub mod Joining
+pub mod Equalities
 pub mod Modelling
 pub mod Findings
 pub mod Selecting

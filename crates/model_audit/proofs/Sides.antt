@@ -19,8 +19,8 @@ use Rattle.dl_syntax.proofs.FactLaws.{pair_in-Pair, Pair-pair_in, element_in-In,
 use Rattle.model_audit.specs.FiniteModels.{IsMember, HasPartner, Keeps, IsApart, Avoids}
 use Rattle.model_audit.specs.Clashes.{IsOnLeft}
 
-same_element : (b : Basic) (f : Fact) (e other : Element) → element_in b f ≡ Some e → In b other f
-    → e ≡ other
+pub same_element : (b : Basic) (f : Fact) (e other : Element) → element_in b f ≡ Some e
+    → In b other f → e ≡ other
 same_element b f e other is inside =
     let both : Some e ≡ Some other = sym is ∙ element_in-In b f other inside in cc
 

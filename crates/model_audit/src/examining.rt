@@ -36,45 +36,56 @@ struct Breach {
 
 /// The first inclusion that the facts don't satisfy, and the first fact whose right side is
 /// missing.
-fn first_broken(index: &Index, inclusions: &[Inclusion], facts: &[Fact]) -> Option<Breach>
+fn first_broken(
+    alloc: Global,
+    index: &Index,
+    inclusions: &[Inclusion],
+    facts: &[Fact],
+) -> Result<Option<Breach>, Memory>
     requires few { length inclusions.now ≤ 16384 }
     requires small { length facts.now < 2 ^ 32 }
     requires same { (f : FactValue) → Contains index.now f ↔ Contains facts.now f }
-    ensures { MatchOption result (All (Satisfies index.now) inclusions.now)
-        (λ b. IsBroken inclusions.now index.now facts.now b.inclusion b.fact) }
+    ensures { IfOk result (λ found. MatchOption found (All (Satisfies index.now) inclusions.now)
+        (λ b. IsBroken inclusions.now index.now facts.now b.inclusion b.fact)) }
 {
-    match first_unsatisfied(index, inclusions) {
+    match first_unsatisfied(alloc, index, inclusions)? {
         Some(before) => match first_unkept(index, &inclusions[before], facts) {
-            Some(fact) => Some(Breach {
+            Some(fact) => Ok(Some(Breach {
                 inclusion: before as u32 + 1,
                 fact,
-            }),
-            None => None,
+            })),
+            None => Ok(None),
         },
-        None => None,
+        None => Ok(None),
     }
 }
 
 /// What is found of the facts, which are those of the index.
-fn found(index: &Index, ontology: &Ontology, snapshot: &[Fact], facts: &[Fact]) -> Finding
+fn found(
+    alloc: Global,
+    index: &Index,
+    ontology: &Ontology,
+    snapshot: &[Fact],
+    facts: &[Fact],
+) -> Result<Finding, Memory>
     requires few { length snapshot.now < 2 ^ 32 }
     requires small { length facts.now < 2 ^ 32 }
     requires same { (f : FactValue) → Contains index.now f ↔ Contains facts.now f }
-    ensures { IsFoundIn ontology.now snapshot.now index.now facts.now result }
+    ensures { IfOk result (IsFoundIn ontology.now snapshot.now index.now facts.now) }
 {
     if let Some(place) = first_missing(index, snapshot) {
-        return Finding::Missing(place);
+        return Ok(Finding::Missing(place));
     }
-    if let Some(breach) = first_broken(index, ontology.inclusions(), facts) {
-        return Finding::Broken {
+    if let Some(breach) = first_broken(alloc, index, ontology.inclusions(), facts)? {
+        return Ok(Finding::Broken {
             inclusion: breach.inclusion,
             fact: breach.fact,
-        };
+        });
     }
-    if let Some(place) = first_met(index, ontology.clashes()) {
-        return Finding::Clash(place as u32 + 1);
+    if let Some(place) = first_met(alloc, index, ontology.clashes())? {
+        return Ok(Finding::Clash(place as u32 + 1));
     }
-    Finding::Model
+    Ok(Finding::Model)
 }
 
 /// What a list of facts lacks of a finite model of the snapshot, and `Model` exactly where it is
@@ -97,6 +108,6 @@ pub fn examine(
         → IsConsistent ontology.now.inclusions ontology.now.clashes snapshot.now) }
 {
     let index = index(alloc, model)?;
-    let finding = found(&index, ontology, snapshot.facts(), model.facts());
+    let finding = found(alloc, &index, ontology, snapshot.facts(), model.facts())?;
     Ok(finding)
 }

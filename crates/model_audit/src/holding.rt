@@ -6,7 +6,7 @@ ghost use Rattle.dl_syntax.specs.declared.facts.Fact.{Fact as FactValue};
 ghost use Rattle.dl_syntax.specs.Facts.{In, Pair};
 ghost use Rattle.model_audit.specs.FiniteModels.{IsMember, HasPartner, ShowsPartner};
 
-use dl_syntax::{Basic, ConceptId, Element, Fact, Role, pair_in};
+use dl_syntax::{Basic, ConceptId, Element, Fact, Role, element_in, pair_in};
 use fact_index::{Index, with_first, with_last};
 
 /// The facts that make a pair of the role.
@@ -25,6 +25,17 @@ pub fn members_of<'a>(index: &'a Index, basic: &Basic) -> &'a [Fact]
     match basic {
         Basic::Concept(id) => index.concept(*id),
         Basic::Some(role) => pairs_of(index, role),
+    }
+}
+
+/// Whether both facts put one element into the basic concept.
+pub fn is_same_member(basic: &Basic, one: &Fact, other: &Fact) -> bool
+    ensures { IsTrue result
+        → (e : ElementValue) × In basic.now e one.now × In basic.now e other.now }
+{
+    match (element_in(basic, one), element_in(basic, other)) {
+        (Some(first), Some(second)) => first == second,
+        _ => false,
     }
 }
 

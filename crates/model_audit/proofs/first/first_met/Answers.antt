@@ -6,18 +6,21 @@ use Rattle.model_audit.proofs.Lists.{lacks_here, all_have}
 use Rattle.model_audit.proofs.first.first_met.Goals as goal
 
 pub loop-place-preserved : goal.loop-place-preserved
-loop-place-preserved c =
-    All-more (Avoids c.args.index.now) c.args.clashes.now c.loop-place.place _
-    c.loop-place-test.true c.loop-place.invariant
-    (c.is_avoided.ensures.0 c.if-not-is_avoided.false)
+loop-place-preserved c = record {
+  all = All-more (Avoids c.args.index.now) c.args.clashes.now c.loop-place.place _
+      c.loop-place-test.true c.loop-place.invariant.all
+      (c.in_ok-joins_avoided.ensures.tells.0 c.if-not-branch.false);
+  known = c.in_ok-joins_avoided.ensures.kept c.if-not-branch.false;
+}
 
-pub returns-then-not-is_avoided : goal.returns-then-not-is_avoided
-returns-then-not-is_avoided c =
+pub returns-then-not-branch : goal.returns-then-not-branch
+returns-then-not-branch c =
     lacks_here (Avoids c.args.index.now) c.args.clashes.now c.loop-place.place _
-    c.loop-place-test.true c.loop-place.invariant
-    (λ there. let found = c.is_avoided.ensures.1 there in let lost = c.if-not-is_avoided.true in cc)
+    c.loop-place-test.true c.loop-place.invariant.all
+    (λ there. let found = c.in_ok-joins_avoided.ensures.tells.1 there in
+    let lost = c.if-not-branch.true in cc)
 
 pub returns : goal.returns
 returns c =
     all_have (Avoids c.args.index.now) c.args.clashes.now c.loop-place.place (omega arith)
-    c.loop-place.invariant
+    c.loop-place.invariant.all

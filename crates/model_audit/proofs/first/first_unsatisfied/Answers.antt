@@ -6,19 +6,21 @@ use Rattle.model_audit.proofs.Lists.{lacks_here, all_have}
 use Rattle.model_audit.proofs.first.first_unsatisfied.Goals as goal
 
 pub loop-place-preserved : goal.loop-place-preserved
-loop-place-preserved c =
-    All-more (Satisfies c.args.index.now) c.args.inclusions.now c.loop-place.place _
-    c.loop-place-test.true c.loop-place.invariant
-    (c.is_satisfied.ensures.0 c.if-not-is_satisfied.false)
+loop-place-preserved c = record {
+  all = All-more (Satisfies c.args.index.now) c.args.inclusions.now c.loop-place.place _
+      c.loop-place-test.true c.loop-place.invariant.all
+      (c.in_ok-joins_satisfied.ensures.tells.0 c.if-not-branch.false);
+  known = c.in_ok-joins_satisfied.ensures.kept c.if-not-branch.false;
+}
 
-pub returns-then-not-is_satisfied : goal.returns-then-not-is_satisfied
-returns-then-not-is_satisfied c =
+pub returns-then-not-branch : goal.returns-then-not-branch
+returns-then-not-branch c =
     lacks_here (Satisfies c.args.index.now) c.args.inclusions.now c.loop-place.place _
-    c.loop-place-test.true c.loop-place.invariant
-    (λ there. let found = c.is_satisfied.ensures.1 there in let lost = c.if-not-is_satisfied.true in
-    cc)
+    c.loop-place-test.true c.loop-place.invariant.all
+    (λ there. let found = c.in_ok-joins_satisfied.ensures.tells.1 there in
+    let lost = c.if-not-branch.true in cc)
 
 pub returns : goal.returns
 returns c =
     all_have (Satisfies c.args.index.now) c.args.inclusions.now c.loop-place.place (omega arith)
-    c.loop-place.invariant
+    c.loop-place.invariant.all
