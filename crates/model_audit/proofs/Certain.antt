@@ -37,6 +37,7 @@ module _ (held facts : List Fact) (same : (f : Fact) → Contains held f ↔ Con
       → AreRowsOf facts count q rows
   rows_alike q rows are = record {
     wide = are.wide;
+    rising = are.rising;
     member = λ row. (
       λ there. (
         answer_alike q row held facts (λ f inside. (same f).0 inside)

@@ -38,7 +38,7 @@ use Rattle.dl_syntax.specs.declared.queries.Cq.{Cq}
 use Rattle.dl_syntax.specs.Match.{term_at}
 use Rattle.dl_syntax.specs.Rows.{Relation, IsBelow, IsRising, IsAboveLast}
 use Rattle.list_lemmas.proofs.Elements.{Contains-none, Contains-first, Contains-single}
-use Rattle.list_lemmas.proofs.Elements.{AllPairs-across}
+use Rattle.list_lemmas.proofs.Elements.{AllPairs-nil, AllPairs-across}
 use Rattle.ucq_join.specs.Answers.{IsAnswer, IsUnionAnswer}
 use Rattle.ucq_join.proofs.RowOrder.{above_last}
 use Rattle.model_audit.specs.Rows.{IsDeclared, AreRowsOf}
@@ -77,6 +77,7 @@ without_row count old new row is undeclared other = (
 -- of the rows before the place exactly the declared ones are kept
 pub record KeptBefore (count : ℕ) (rows kept : Relation) (place : ℕ) : Type 0 where
   pub wide : kept.arity ≡ rows.arity
+  pub rising : IsRising kept.rows
   pub members : (row : List IndId) → Contains kept.rows row
       ↔ (Contains (take place rows.rows) row × All (IsDeclared count) row)
 
@@ -85,6 +86,7 @@ module _ (count : ℕ) (rows : Relation) where
       → KeptBefore count rows kept 0
   kept_none kept is = record {
     wide = ap (λ (r : Relation). r.arity) is;
+    rising = subst (λ (r : Relation). IsRising r.rows) (sym is) (AllPairs-nil IsBelow);
     members = λ row. (
       λ there. absurd (Contains-none row (subst (λ (r : Relation). Contains r.rows row) is there)),
       λ (there, declared). absurd (none row there),
@@ -107,13 +109,14 @@ module _ (count : ℕ) (rows : Relation) where
         (subst IsRising (sym parts) rising) ((before.members x).0 there).0
         (Contains-first (get_or rows.rows k d) (drop (suc k) rows.rows)))
 
-    pub kept_next : (new : Relation) → new.arity ≡ kept.arity
+    pub kept_next : (new : Relation) → new.arity ≡ kept.arity → IsRising new.rows
         → ((other : List IndId) → Contains new.rows other
         ↔ (Contains kept.rows other
         ⊎ ((other ≡ get_or rows.rows k d) × All (IsDeclared count) other)))
         → KeptBefore count rows new (k + 1)
-    kept_next new wide added = record {
+    kept_next new wide rising added = record {
       wide = wide ∙ before.wide;
+      rising = rising;
       members = λ row. (
         λ there. elim ((added row).0 there) [
           | inl early ↦ (
@@ -168,13 +171,14 @@ module _ (facts : List Fact) (q : Cq) (union : List Cq) (alone : union ≡ q ∷
       (q, subst (λ (qs : List Cq). Contains qs q) (sym alone) (Contains-first q []), answer)
 
   pub declared_rows_of : (count : ℕ) (rows kept : Relation) → rows.arity ≡ length q.head
-      → kept.arity ≡ rows.arity
+      → kept.arity ≡ rows.arity → IsRising kept.rows
       → ((row : List IndId) → Contains rows.rows row ↔ IsUnionAnswer facts union row)
       → ((row : List IndId) → Contains kept.rows row
       ↔ (Contains rows.rows row × All (IsDeclared count) row))
       → AreRowsOf facts count q kept
-  declared_rows_of count rows kept wide same answers members = record {
+  declared_rows_of count rows kept wide same rising answers members = record {
     wide = same ∙ wide;
+    rising = rising;
     member = λ row. (
       λ there. (
         one_answer row ((answers row).0 ((members row).0 there).0),

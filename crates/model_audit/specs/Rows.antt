@@ -6,7 +6,7 @@ use Rattle.std.specs.Global.{Global}
 use Rattle.dl_syntax.specs.declared.names.IndId.{IndId}
 use Rattle.dl_syntax.specs.declared.facts.Fact.{Fact}
 use Rattle.dl_syntax.specs.declared.queries.Cq.{Cq}
-use Rattle.dl_syntax.specs.Rows.{Relation}
+use Rattle.dl_syntax.specs.Rows.{Relation, IsRising}
 use Rattle.tcq_syntax.specs.Tcq.{Tcq}
 use Rattle.tcq_syntax.specs.declared.nodes.Node.{Node}
 use Rattle.tcq_syntax.specs.declared.nodes.Node.TheVariants as node
@@ -22,9 +22,10 @@ leaf_queries [] = []
 leaf_queries (node.Leaf q ∷ nodes) = q ∷ leaf_queries nodes
 leaf_queries (_ ∷ nodes) = leaf_queries nodes
 
--- exactly the rows of declared individuals with a match in the facts
+-- exactly the rows of declared individuals with a match in the facts, in rising order
 pub record AreRowsOf (facts : List Fact) (count : ℕ) (q : Cq) (rows : Relation) : Type 0 where
   pub wide : rows.arity ≡ length q.head
+  pub rising : IsRising rows.rows
   pub member : (row : List IndId) → Contains rows.rows row
       ↔ (IsAnswer facts q row × All (IsDeclared count) row)
 

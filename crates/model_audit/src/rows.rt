@@ -45,7 +45,9 @@ fn is_declared_row(count: u32, row: &[IndId]) -> bool
 fn keep_row(count: u32, row: &[IndId], kept: &mut Tuples) -> Result<(), Memory>
     requires long { length row.now ≡ kept.old.arity }
     requires above { IsAboveLast row.now kept.old.rows }
+    requires rising { IsRising kept.old.rows }
     ensures wide { OnOk result (kept.new.arity ≡ kept.old.arity) }
+    ensures rising { OnOk result (IsRising kept.new.rows) }
     ensures rows { OnOk result
         ((other : List IndValue) → Contains kept.new.rows other
         ↔ (Contains kept.old.rows other ⊎ ((other ≡ row.now) × All (IsDeclared count) other))) }
@@ -62,6 +64,7 @@ fn declared_rows(alloc: Global, count: u32, rows: &Tuples) -> Result<Tuples, Mem
     requires rising { IsRising rows.now.rows }
     requires long { All (λ row. length row ≡ rows.now.arity) rows.now.rows }
     ensures wide { IfOk result (λ kept. kept.arity ≡ rows.now.arity) }
+    ensures rising { IfOk result (λ kept. IsRising kept.rows) }
     ensures rows { IfOk result
         (λ kept. (row : List IndValue) → Contains kept.rows row
         ↔ (Contains rows.now.rows row × All (IsDeclared count) row)) }

@@ -28,6 +28,7 @@ loop-place-preserved c =
     kept_next c.args.count c.args.rows.now c.loop-place.kept c.loop-place.place c.row.result.now
     within
     c.loop-place.invariant c.keep_row.new.kept c.in_ok-keep_row.ensures.wide
+    c.in_ok-keep_row.ensures.rising
     (subst (λ (row : List IndId). (other : List IndId) → Contains c.keep_row.new.kept.rows other
     ↔ (Contains c.loop-place.kept.rows other
     ⊎ ((other ≡ row) × All (IsDeclared c.args.count) other))) (sym is)
