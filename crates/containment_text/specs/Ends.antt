@@ -10,5 +10,5 @@ use Rattle.containment_text.specs.Containments.{IsContainment, refuses_no_leaf}
 -- the containments were written of what the files of these names say
 abbrev pub ContainEnds : FileNames → Ending Refusal → Outside → Outside → Type 0
 ContainEnds names ending before now =
-    FilesStay before now
+    FilesStay ending before.files now.files
     × FilesEnd refuses_no_leaf names (λ setting. TextEnds (IsContainment setting)) ending before now

@@ -2,3 +2,4 @@ mod LongTexts
 mod Texts
 mod SourceTexts
 pub mod OneSetting
+pub mod Staying

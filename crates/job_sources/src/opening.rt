@@ -1,10 +1,11 @@
 //! The monitor of the files that the words name.
 
-ghost use Rattle.std.specs.Prelude.{◌≡◌, false, IfOk, IfErr};
+ghost use Rattle.std.specs.Prelude.{◌≡◌, false, IfOk, IfErr, OnOk};
 ghost use Rattle.tcq_syntax.specs.Histories.{empty_history};
 ghost use Rattle.tcq_syntax.specs.Within.{AreWithin};
 ghost use Rattle.monitor_core.specs.Standing.{Stands, setting_of};
 ghost use Rattle.stream_report.specs.Outside.{files_told};
+ghost use Rattle.job_sources.specs.Ends.{FilesStay};
 ghost use Rattle.job_sources.specs.FileNames.{file_names};
 ghost use Rattle.job_sources.specs.Opening.{Is};
 ghost use Rattle.job_sources.specs.Sources.{AreTooMany};
@@ -51,6 +52,9 @@ pub fn open_files<F: Files>(
         (FilesUnread (files_told F.Files files.old) (files_told F.Files files.new)
         (file_names names.entry))) }
     ensures held { F.held files.new ≡ F.held files.old }
+    ensures stays { OnOk result (files_told F.Files files.new ≡ files_told F.Files files.old) }
+    ensures stay { IfErr result (λ ending.
+        FilesStay ending (files_told F.Files files.old) (files_told F.Files files.new)) }
 {
     let sources = match read_sources(alloc, files, names) {
         Ok(sources) => sources,

@@ -1,10 +1,11 @@
 //! The ontology and the queries of the files that the words name, whatever they say.
 
-ghost use Rattle.std.specs.Prelude.{◌≡◌, ◌≤◌, false, true, IfOk, IfErr, MatchResult};
+ghost use Rattle.std.specs.Prelude.{◌≡◌, ◌≤◌, false, true, IfOk, IfErr, MatchResult, OnOk};
 ghost use Rattle.edge_io.specs.Held.{IsFetched};
 ghost use Rattle.tcq_syntax.specs.Within.{AreWithin};
 ghost use Rattle.report_text.specs.Names.{AreSpelled};
 ghost use Rattle.tcq_reader.specs.Reading.{SaysQueries};
+ghost use Rattle.job_sources.specs.Ends.{FilesStay};
 ghost use Rattle.job_sources.specs.FileNames.{file_names};
 ghost use Rattle.job_sources.specs.Sayings.{setting_in};
 ghost use Rattle.job_sources.specs.OntologyForms.{SaysAs};
@@ -42,6 +43,7 @@ fn fetch<F: Files>(alloc: Global, files: &mut F, name: &str) -> Result<Vec<u8>, 
         (IsFetchRefused (files_told F.Files files.old) (files_told F.Files files.new) name.now) }
     ensures held { F.held files.new ≡ F.held files.old }
     ensures later { F.faults files.old ≤ F.faults files.new }
+    ensures stays { OnOk result (files_told F.Files files.new ≡ files_told F.Files files.old) }
 {
     match files.fetch(alloc, name, TEXT_LIMIT) {
         Ok(bytes) => Ok(bytes),
@@ -119,6 +121,9 @@ pub fn read_sources<F: Files>(
     ensures refuses { IfErr result (FilesUnread (files_told F.Files files.old)
         (files_told F.Files files.new) (file_names names.entry)) }
     ensures held { F.held files.new ≡ F.held files.old }
+    ensures stays { OnOk result (files_told F.Files files.new ≡ files_told F.Files files.old) }
+    ensures stay { IfErr result (λ ending.
+        FilesStay ending (files_told F.Files files.old) (files_told F.Files files.new)) }
 {
     let text = match fetch(alloc, files, names.ontology) {
         Ok(text) => text,

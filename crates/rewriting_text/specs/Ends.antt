@@ -11,5 +11,5 @@ use Rattle.rewriting_text.specs.Leaves.{IsRewriting}
 -- the rewritings were written of what the files of these names say
 abbrev pub RewriteEnds : FileNames → Ending Refusal → Outside → Outside → Type 0
 RewriteEnds names ending before now =
-    FilesStay before now
+    FilesStay ending before.files now.files
     × FilesEnd nothing_more names (λ setting. TextEnds (IsRewriting setting)) ending before now

@@ -17,7 +17,7 @@ use Rattle.watch_report.specs.Report.{start, watching}
 -- the stream was watched by what the files of these names say
 abbrev pub WatchEnds : Options → FileNames → Ending Refusal → Outside → Outside → Type 0
 WatchEnds options names ending before now =
-    FilesStay before now
+    FilesStay ending before.files now.files
     × FilesEnd nothing_more names
     (λ setting. StreamEnds (watching (record { setting = setting; options = options })) start)
     ending before now

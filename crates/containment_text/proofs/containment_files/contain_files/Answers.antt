@@ -4,11 +4,12 @@ use Rattle.tcq_syntax.specs.Within.{AreWithin}
 use Rattle.report_text.specs.Names.{AreSpelled}
 use Rattle.monitor_core.specs.Setting.{Setting}
 use Rattle.stream_report.specs.Ends.{Written}
-use Rattle.stream_report.specs.Outside.{sink_told}
+use Rattle.stream_report.specs.Outside.{files_told, sink_told}
 use Rattle.stream_report.proofs.TextEndings.{text_ends}
 use Rattle.job_sources.specs.FileNames.{file_names}
 use Rattle.containment_text.specs.Containments.{IsContainment}
 use Rattle.job_sources.specs.Sources.{FilesSay}
+use Rattle.job_sources.proofs.Staying.{stay_whole}
 use Rattle.containment_text.proofs.containment_files.contain_files.Goals as goal
 
 pub containments-requires-clause-within : goal.containments-requires-clause-within
@@ -36,7 +37,8 @@ returns-in-Ok-containments g c = record {
       subst (λ (t : List ℕ). Written c.write_text.result t (g.K.Sink.got c.args.out.now)
       (g.K.Sink.got c.write_text.new.out)) c.deref-in-Ok-containments.ensures.value
       c.write_text.ensures.written in (
-        c.in-Ok.ensures.held,
+        stay_whole c.write_text.result (files_told g.F.Files c.args.files.now)
+            (files_told g.F.Files c.read_sources.new.files) c.in-Ok.ensures.stays,
         inr (
           setting,
           record {

@@ -4,6 +4,8 @@ use Rattle.monitor_core.specs.Setting.{Setting}
 use Rattle.job_sources.specs.FileNames.{file_names}
 use Rattle.job_sources.specs.Sayings.{setting_in}
 use Rattle.job_sources.specs.Sources.{Opens, FilesSay, nothing_more}
+use Rattle.stream_report.specs.Outside.{files_told}
+use Rattle.job_sources.proofs.Staying.{stay_whole}
 use Rattle.job_sources.proofs.opening.open_files.Goals as goal
 
 pub returns-in-Ok-monitor_of-clause-opens : goal.returns-in-Ok-monitor_of-clause-opens
@@ -24,3 +26,8 @@ returns-in-Ok-monitor_of-clause-opens g c =
           (sym c.in-Ok-monitor_of.ensures.setting)
           c.in-Ok.ensures.spelled;
     }
+
+pub returns-in-Err-monitor_of-clause-stay : goal.returns-in-Err-monitor_of-clause-stay
+returns-in-Err-monitor_of-clause-stay g c =
+    stay_whole c.in-Err-monitor_of.ending (files_told g.F.Files c.args.files.now)
+    (files_told g.F.Files c.read_sources.new.files) c.in-Ok.ensures.stays

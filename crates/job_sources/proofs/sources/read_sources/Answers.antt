@@ -1,9 +1,11 @@
+use Rattle.std.proofs.Common.{◌∙◌}
 use Rattle.tcq_reader.proofs.NamedLemmas.{said_are_named}
 use Rattle.tcq_reader.proofs.WithinLemmas.{said_are_within}
 use Rattle.stream_report.specs.Outside.{files_told}
 use Rattle.job_sources.specs.FileNames.{file_names}
 use Rattle.job_sources.proofs.SourceTexts.{ontology_fault, ontology_unfetched, queries_unfetched}
 use Rattle.job_sources.proofs.SourceTexts.{fetched_both, both_say, queries_fault}
+use Rattle.job_sources.proofs.Staying.{stay_whole, stay_unfetched, stay_after}
 use Rattle.job_sources.proofs.sources.read_sources.Goals as goal
 
 pub returns-in-Err-clause-refuses : goal.returns-in-Err-clause-refuses
@@ -58,3 +60,33 @@ returns-clause-refuses g c =
     queries_fault (files_told g.F.Files c.args.files.now) (files_told g.F.Files c.fetch-2.new.files)
     (file_names c.args.names) c.in-Ok-ontology_of.ontology c.deref-2.result.now
     c.in-Err-queries_of.ending both c.in-Err-queries_of.ensures
+
+pub returns-in-Err-clause-stay : goal.returns-in-Err-clause-stay
+returns-in-Err-clause-stay g c =
+    stay_unfetched c.in-Err.ending (files_told g.F.Files c.args.files.now)
+    (files_told g.F.Files c.fetch.new.files) (file_names c.args.names).ontology
+    c.in-Err.ensures.refused c.fetch.ensures.held
+
+pub returns-in-Err-ontology_of-clause-stay : goal.returns-in-Err-ontology_of-clause-stay
+returns-in-Err-ontology_of-clause-stay g c =
+    stay_whole c.in-Err-ontology_of.ending (files_told g.F.Files c.args.files.now)
+    (files_told g.F.Files c.fetch.new.files) c.in-Ok.ensures.stays
+
+pub returns-in-Err-fetch-clause-stay : goal.returns-in-Err-fetch-clause-stay
+returns-in-Err-fetch-clause-stay g c =
+    stay_after c.in-Err-fetch.ending (files_told g.F.Files c.args.files.now)
+    (files_told g.F.Files c.fetch.new.files) (files_told g.F.Files c.fetch-2.new.files)
+    c.in-Ok.ensures.stays
+    (stay_unfetched c.in-Err-fetch.ending (files_told g.F.Files c.fetch.new.files)
+    (files_told g.F.Files c.fetch-2.new.files) (file_names c.args.names).queries
+    c.in-Err-fetch.ensures.refused c.fetch-2.ensures.held)
+
+pub returns-in-Ok-queries_of-clause-stays : goal.returns-in-Ok-queries_of-clause-stays
+returns-in-Ok-queries_of-clause-stays g c =
+    c.in-Ok-fetch.ensures.stays ∙ c.in-Ok.ensures.stays
+
+pub returns-clause-stay : goal.returns-clause-stay
+returns-clause-stay g c =
+    stay_whole c.in-Err-queries_of.ending (files_told g.F.Files c.args.files.now)
+    (files_told g.F.Files c.fetch-2.new.files)
+    (c.in-Ok-fetch.ensures.stays ∙ c.in-Ok.ensures.stays)

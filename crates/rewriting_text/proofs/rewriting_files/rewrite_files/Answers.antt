@@ -4,11 +4,12 @@ use Rattle.tcq_syntax.specs.Tcq.{Tcq}
 use Rattle.tcq_syntax.specs.Within.{AreWithin}
 use Rattle.monitor_core.specs.Setting.{Setting}
 use Rattle.stream_report.specs.Ends.{Written}
-use Rattle.stream_report.specs.Outside.{sink_told}
+use Rattle.stream_report.specs.Outside.{files_told, sink_told}
 use Rattle.stream_report.proofs.TextEndings.{text_ends}
 use Rattle.job_sources.specs.FileNames.{file_names}
 use Rattle.rewriting_text.specs.Leaves.{IsRewriting}
 use Rattle.job_sources.specs.Sources.{FilesSay}
+use Rattle.job_sources.proofs.Staying.{stay_whole}
 use Rattle.rewriting_text.proofs.rewriting_files.rewrite_files.Goals as goal
 
 pub rewriting_text-requires : goal.rewriting_text-requires
@@ -32,7 +33,8 @@ returns-in-Ok-rewriting_text g c = record {
       subst (λ (t : List ℕ). Written c.write_text.result t (g.K.Sink.got c.args.out.now)
       (g.K.Sink.got c.write_text.new.out)) c.deref-in-Ok-rewriting_text.ensures.value
       c.write_text.ensures.written in (
-        c.in-Ok.ensures.held,
+        stay_whole c.write_text.result (files_told g.F.Files c.args.files.now)
+            (files_told g.F.Files c.read_sources.new.files) c.in-Ok.ensures.stays,
         inr (
           setting,
           record {
@@ -61,7 +63,7 @@ returns-in-Err-TooManyRewritings g c = record {
       (record { ontology = c.in-Ok.sources.ontology; queries = qs }))
       (sym c.deref.ensures.value) c.in-Ok.ensures.say in
       let is : c.rewriting_text.result ≡ Err TooManyRewritings = cc in (
-        c.in-Ok.ensures.held,
+        c.in-Ok.ensures.stays,
         inl (
           inr (
             setting,
