@@ -54,7 +54,8 @@ fn append_name(out: &mut Vec<u8>, name: &[u8]) -> Result<(), Memory>
 
 /// Appends the decimal digits of a number as a string. What stood before stays, also on an error.
 fn append_digits(out: &mut Vec<u8>, number: u128) -> Result<(), Memory>
-    ensures ok { OnOk result (out.new.items ≡ out.old.items ++ value_text (string (decimal number))) }
+    ensures ok { OnOk result (out.new.items
+        ≡ out.old.items ++ value_text (string (decimal number))) }
     ensures kept { take (vec_len out.old) out.new.items ≡ out.old.items }
 {
     let mut buffer = Buffer::new();

@@ -1,7 +1,6 @@
 //! Names of individuals that lines declare.
 
 ghost use Rattle.std.specs.Prelude.{◌≡◌, ◌≤◌, length};
-ghost use Rattle.serde_json.specs.View.{view};
 ghost use Rattle.dl_syntax.specs.Ontology.{Declared};
 ghost use Rattle.snapshot_reader.specs.Written.{is_reserved, declaring, individual_written};
 ghost use Rattle.snapshot_reader.specs.Said.{line_says};

@@ -1,6 +1,6 @@
 //! Lines of a stream.
 
-ghost use Rattle.std.specs.Prelude.{◌≡◌, ◌≤◌, length};
+ghost use Rattle.std.specs.Prelude.{◌≤◌, length};
 ghost use Rattle.std.specs.Option.{option_map_or};
 ghost use Rattle.text_scan.specs.declared.TokenKind.TheVariants.{Name};
 ghost use Rattle.dl_syntax.specs.Ontology.{Declared};

@@ -3,7 +3,7 @@ use Rattle.std.proofs.Common.{◌≡◌, ℕ, zero, suc, Bool, not, Option, None
 use Rattle.std.proofs.Common.{inl, inr, refl, sym, ap, subst, arith, append-nil}
 use Rattle.dl_syntax.specs.Names.{IsName}
 use Rattle.dl_syntax.specs.Ontology.{Declared, with_individuals}
-use Rattle.tcq_syntax.specs.Arrivals.{NameFault, fault_of_name, fault_after, AreAcceptable}
+use Rattle.tcq_syntax.specs.Arrivals.{NameFault, fault_of_name, fault_after}
 use Rattle.tcq_syntax.specs.Arrivals.{IsFirstFault, IsFaultAt}
 use Rattle.tcq_syntax.specs.Arrivals as why
 use Rattle.tcq_syntax.specs.Histories.{History, with_name}

@@ -1,5 +1,5 @@
 -- The history after a line is one of the ontology and the queries.
-use Rattle.std.proofs.Common.{◌≡◌, ℕ, Option, None, Some, List, length, refl}
+use Rattle.std.proofs.Common.{◌≡◌, ℕ, ◌+◌, [], ◌∷◌, Option, None, Some, List, length, refl}
 use Rattle.std.proofs.Common.{sym, ap, subst, length-append}
 use Rattle.std.specs.List.{All}
 use Rattle.std.proofs.lemmas.List.Elements.{All-weaker}
@@ -18,6 +18,7 @@ use Rattle.tcq_syntax.proofs.Arrivals.{no_fault_may_follow}
 use Rattle.tcq_syntax.proofs.Continuing.{snapshot_continues, name_continues}
 use Rattle.edge_io.specs.Lines.{Item as StreamLine, text, too_long}
 use Rattle.forms.specs.declared.StreamForm.{StreamForm}
+use Rattle.stream_report.specs.Told.{Told}
 use Rattle.snapshot_reader.specs.Laws.{IsDeclaredIndividual, IsDeclared}
 use Rattle.snapshot_reader.specs.Said.{Said, nothing, names, says, said}
 use Rattle.snapshot_reader.specs.Said.{refused as is_refused}
@@ -30,7 +31,8 @@ use Rattle.watch_report.specs.Outcome.{Outcome, skip, refused, declares, accepte
 use Rattle.watch_report.specs.Outcome.{HasOutcome, name_comes_to}
 use Rattle.watch_report.specs.Task.{Task, ontology_after}
 use Rattle.watch_report.specs.Told.{Replies}
-use Rattle.watch_report.specs.ReportLaws.{HistoriesGoOn}
+use Rattle.watch_report.specs.Report.{Standing, watches}
+use Rattle.watch_report.specs.ReportLaws.{HistoriesGoOn, HistoriesAreTold}
 
 -- ---- a snapshot
 
@@ -148,3 +150,20 @@ goes_on task history number (text line) told after (accepted facts) before has r
 pub histories_go_on : HistoriesGoOn
 histories_go_on task history number line told after before tells =
     goes_on task history number line told after tells.outcome before tells.has tells.replies
+
+-- ---- lines
+
+module _ (task : Task) where
+  abbrev Goes : Standing → Type 0
+  Goes at = IsHistory task.setting.ontology task.setting.queries at.history
+
+  told_goes_on : (lines : List StreamLine) (number : ℕ) (before after : Standing) (told : List ℕ)
+      → Goes before → Told (watches task) lines number before told after → Goes after
+  told_goes_on [] number before after told is p = subst Goes (sym p.1) is
+  told_goes_on (line ∷ lines) number before after told is (first, rest, next, step, later, _) =
+      told_goes_on lines (number + 1) next after rest
+      (histories_go_on task before.history number line step.0 next.history is step.1.0) later
+
+pub histories_are_told : HistoriesAreTold
+histories_are_told task lines number before after told is tells =
+    told_goes_on task lines number before after told is tells

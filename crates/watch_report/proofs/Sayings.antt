@@ -23,4 +23,5 @@ fact_over o (fact.Role p x y) is = (is.0, element_over o x is.1, element_over o 
 pub says_over : (o : Declared) (form : StreamForm) (line : List ℕ) (facts : List Fact)
     → said o form line ≡ says facts → AreOver o facts
 says_over o form line facts is =
-    All-weaker (IsDeclared o) (IsOver o) (fact_over o) facts (said_are_declared o form line facts is)
+    All-weaker (IsDeclared o) (IsOver o) (fact_over o) facts
+    (said_are_declared o form line facts is)

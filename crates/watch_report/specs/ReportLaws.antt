@@ -11,7 +11,8 @@ use Rattle.stream_maker.specs.Snapshots.{stream_text}
 use Rattle.job_sources.specs.declared.refusal.Refusal.{Refusal}
 use Rattle.watch_report.specs.Drill.{IsDrill, MadeSay}
 use Rattle.watch_report.specs.Outcome.{Outcome, HasOutcome}
-use Rattle.watch_report.specs.Report.{watches, watching}
+use Rattle.stream_report.specs.Told.{Told}
+use Rattle.watch_report.specs.Report.{Standing, watches, watching}
 use Rattle.job_sources.specs.Sources.{nothing_more, Opens}
 use Rattle.watch_report.specs.Task.{Task}
 use Rattle.watch_report.specs.Told.{TellsLine}
@@ -32,6 +33,15 @@ HistoriesGoOn =
     IsHistory task.setting.ontology task.setting.queries history →
     TellsLine task history number line told after →
     IsHistory task.setting.ontology task.setting.queries after
+
+-- and so is the one after any lines
+abbrev pub HistoriesAreTold : Type 0
+HistoriesAreTold =
+    (task : Task) (lines : List StreamLine) (number : ℕ) (before after : Standing)
+    (told : List ℕ) →
+    IsHistory task.setting.ontology task.setting.queries before.history →
+    Told (watches task) lines number before told after →
+    IsHistory task.setting.ontology task.setting.queries after.history
 
 -- one thing is told of a line, and one history comes after it
 abbrev pub OneLine : Type 0

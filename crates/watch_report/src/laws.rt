@@ -3,16 +3,17 @@
 ghost use Rattle.watch_report.specs.ReportLaws.{OneOutcome, OneLine, OneTold, ToldJoined};
 ghost use Rattle.watch_report.specs.ReportLaws.{ToldParts, OneReport, OnePart, BeginsPart};
 ghost use Rattle.watch_report.specs.ReportLaws.{BeginsWhole, CutShort, LimitIsExact, OneDrill};
-ghost use Rattle.watch_report.specs.ReportLaws.{HistoriesGoOn};
+ghost use Rattle.watch_report.specs.ReportLaws.{HistoriesGoOn, HistoriesAreTold};
 
 /// A line has one outcome.
 pub fn one_outcome()
     ensures { OneOutcome }
 {}
 
-/// The history after a line is one of the ontology and the queries.
+/// The history after a line, and so after any lines, is one of the ontology and the queries.
 pub fn histories_go_on()
-    ensures { HistoriesGoOn }
+    ensures line { HistoriesGoOn }
+    ensures lines { HistoriesAreTold }
 {}
 
 /// One thing is told of a line.

@@ -8,7 +8,7 @@ ghost use Rattle.stream_report.specs.Ends.{StreamEnds};
 ghost use Rattle.stream_report.specs.Outside.{ports_of, outside_of};
 ghost use Rattle.job_sources.specs.FileNames.{file_names};
 ghost use Rattle.watch_report.specs.Ends.{WatchEnds};
-ghost use Rattle.watch_report.specs.Report.{Standing, start, end_event, bytes_of_event, watching};
+ghost use Rattle.watch_report.specs.Report.{Standing, start, watching};
 ghost use Rattle.watch_report.specs.Props.{facts};
 ghost use Rattle.watch_report.specs.Task.{Task, task_of};
 

@@ -1,4 +1,4 @@
-use Rattle.std.proofs.Common.{ap, sym, subst, ◌∙◌}
+use Rattle.std.proofs.Common.{sym, subst}
 use Rattle.serde_json.specs.View.{view}
 use Rattle.snapshot_reader.specs.Written.{Line}
 use Rattle.snapshot_reader.specs.Said.{line_says}

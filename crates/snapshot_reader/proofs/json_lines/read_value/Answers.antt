@@ -1,5 +1,5 @@
 use Rattle.std.proofs.Common.{◌≡◌, ap, sym, subst, ◌∙◌}
-use Rattle.std.specs.Prelude.{Some, None, Option}
+use Rattle.std.specs.Prelude.{Some, Option}
 use Rattle.std.specs.Option.{option_map_or}
 use Rattle.serde_json.specs.Data.{Items}
 use Rattle.serde_json.specs.View.{view, items_view}
@@ -14,7 +14,8 @@ pub returns-in_default : goal.returns-in_default
 returns-in_default c =
     let o = c.args.ontology.now in
     subst (λ (l : Line). Tells c.read_named.result (line_says o l))
-    (sym (without_facts (view c.args.value.now) (sym c.in_default.ensures))) (c.read_named.ensures o)
+    (sym (without_facts (view c.args.value.now) (sym c.in_default.ensures)))
+    (c.read_named.ensures o)
 
 pub returns-in-Some-as_array : goal.returns-in-Some-as_array
 returns-in-Some-as_array c =

@@ -25,6 +25,7 @@ returns-in-Ok-cause_of_name-clause-ok c = λ history line stands is.
     subst (λ (e : Event). AcceptsLine c.args.options m c.declare.new.self (text line) c.args.number
     (Some e) history) (sym c.refused.ensures)
     (subst (λ (n : Monitored). AcceptsLine c.args.options m n (text line) c.args.number
-    (Some (event.Refused c.args.number c.in-Ok-cause_of_name.cause)) history) (sym c.in-Err.ensures.err)
+    (Some (event.Refused c.args.number c.in-Ok-cause_of_name.cause)) history)
+    (sym c.in-Err.ensures.err)
     (refused_line m history c.args.name stands c.args.options line c.args.number is c.in-Err.fault
     c.in-Ok-cause_of_name.cause refusal c.in-Ok-cause_of_name.ensures.cause))
