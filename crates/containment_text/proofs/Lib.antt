@@ -1,3 +1,4 @@
 mod LeafQueries
 mod PairTexts
 mod OnePairs
+mod ShortNames

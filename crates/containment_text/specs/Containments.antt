@@ -3,6 +3,7 @@ use Rattle.std.specs.Prelude.{◌≡◌, ◌≢◌, ◌==◌, nat_lt, ℕ, ◌+�
 use Rattle.std.specs.Prelude.{decimal, flat_map, if◌then◌else◌, length, Option, None, Some, Vec}
 use Rattle.std.specs.Global.{Global}
 use Rattle.std.specs.List.{AllZip}
+use Rattle.short_names.specs.Names.{name_in}
 use Rattle.dl_syntax.specs.declared.names.IndId.{IndId}
 use Rattle.dl_syntax.specs.declared.facts.Element.{Element}
 use Rattle.dl_syntax.specs.declared.facts.Element.TheVariants.{Ind, Null}
@@ -21,7 +22,6 @@ use Rattle.contain_test.specs.Contained.{IsExact}
 use Rattle.monitor_core.specs.Setting.{Setting}
 use Rattle.job_sources.specs.declared.refusal.Refusal.{Refusal}
 use Rattle.job_sources.specs.declared.refusal.Refusal.TheVariants.{NotALeaf}
-use Rattle.job_sources.specs.Names.{name_in}
 
 -- ---- which queries are compared
 

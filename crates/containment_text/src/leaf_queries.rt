@@ -3,12 +3,13 @@
 ghost use Rattle.std.specs.Prelude.{◌≡◌, option_map};
 ghost use Rattle.report_text.specs.Names.{AreSpelled};
 ghost use Rattle.tcq_syntax.specs.Tcq.{IsTcq};
-ghost use Rattle.job_sources.specs.Names.{name_in};
+ghost use Rattle.short_names.specs.Names.{name_in};
+ghost use Rattle.dl_syntax.specs.Names.{IsName};
 ghost use Rattle.containment_text.specs.Containments.{leaf_query as leaf_in};
 ghost use Rattle.containment_text.specs.Containments.{first_no_leaf as first_in};
 
 use dl_syntax::Cq;
-use job_sources::QueryName;
+use short_names::ShortName;
 use tcq_syntax::{Node, Query};
 
 /// The conjunctive query that the query is, if its root is a leaf that names all its answer
@@ -29,8 +30,17 @@ pub fn leaf_query(query: &Query) -> Option<&Cq>
     }
 }
 
+/// The name of a query, in place.
+#[tactic(auto, using(crate::proofs::ShortNames::whole_name))]
+fn name_of(query: &Query) -> ShortName
+    requires { IsName query.now.name }
+    ensures { name_in result ≡ query.now.name }
+{
+    ShortName::new(query.name().bytes())
+}
+
 /// The name of the first query that is none, if there is one.
-pub fn first_no_leaf(queries: &[Query]) -> Option<QueryName>
+pub fn first_no_leaf(queries: &[Query]) -> Option<ShortName>
     requires { AreSpelled queries.now }
     ensures { option_map name_in result ≡ first_in queries.now }
 {
@@ -38,7 +48,7 @@ pub fn first_no_leaf(queries: &[Query]) -> Option<QueryName>
         [] => None,
         [query, rest @ ..] => match leaf_query(query) {
             Some(_) => first_no_leaf(rest),
-            None => Some(QueryName::new(query.name().bytes())),
+            None => Some(name_of(query)),
         },
     }
 }
