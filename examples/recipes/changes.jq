@@ -5,6 +5,6 @@ foreach inputs as $event (
   then {before: .now, now: [$event.answers[] | .query as $query | .tuples[] | [$query] + . | join(" ")]}
   else .before = .now end;
   if $event.answers then "line \($event.line)", (.now - .before | .[] | "+ " + .), (.before - .now | .[] | "- " + .)
-  elif $event.end then empty
+  elif $event.end or $event.declared then empty
   else "line \($event.line): " + ([$event.refused, $event.name // $event.clash // empty | tostring] | join(" ")) end
 )
