@@ -1,5 +1,5 @@
 -- Reports of the same lines are one text.
-use Rattle.std.proofs.Common.{◌≡◌, ℕ, ◌+◌, List, sym, ◌∙◌, ap, subst}
+use Rattle.std.proofs.Common.{◌≡◌, ℕ, ◌+◌, false, List, sym, ◌∙◌, ap, subst}
 use Rattle.edge_io.specs.Lines.{Item as StreamLine, items}
 use Rattle.stream_maker.specs.Snapshots.{stream_text}
 use Rattle.tcq_syntax.specs.Histories.{History}
@@ -68,7 +68,7 @@ rehearsing_once task = (rehearses_once task, λ state one other p q. p ∙ sym q
 pub one_drill : OneDrill
 one_drill seed count setting later one other opens reopens p q =
     let same : setting ≡ later =
-    same_setting (Is ontology_text) (Is queries_text) (λ a b x y. x ∙ sym y) (λ a b x y.
+    same_setting false (Is ontology_text) (Is queries_text) (λ a b x y. x ∙ sym y) (λ a b x y.
     x ∙ sym y) setting later opens.say reopens.say in
     one_report (rehearsing (record { setting = later; options = plain }))
     (rehearsing_once (record { setting = later; options = plain })) unrehearsed

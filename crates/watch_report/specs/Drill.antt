@@ -59,4 +59,4 @@ IsDrill setting stream text =
 
 -- what the ontology and the queries say that a drill makes
 abbrev pub MadeSay : Setting → Type 0
-MadeSay setting = Says (Is ontology_text) (Is queries_text) setting
+MadeSay setting = Says false (Is ontology_text) (Is queries_text) setting

@@ -1,4 +1,4 @@
-use Rattle.std.proofs.Common.{◌≤◌, ◌^◌, ℕ, List, inr, length, ◌∙◌, sym, subst}
+use Rattle.std.proofs.Common.{◌≤◌, ◌^◌, ℕ, false, List, inr, length, ◌∙◌, sym, subst}
 use Rattle.stream_maker.specs.Snapshots.{queries_text}
 use Rattle.monitor_core.specs.Standing.{setting_of}
 use Rattle.stream_report.specs.Ends.{TextEnds}
@@ -23,9 +23,9 @@ returns-in-Ok-open_texts g c = record {
       let opens = c.in-Ok-open_texts.ensures.opens.opens in
       let setting = setting_of c.in-Ok-open_texts.monitor in
       let say : MadeSay setting =
-      subst (λ (o : List ℕ). Says (Is o) (Is queries_text) setting)
+      subst (λ (o : List ℕ). Says false (Is o) (Is queries_text) setting)
       (c.deref.ensures.value ∙ c.in-Ok.ensures.ontology)
-      (subst (λ (q : List ℕ). Says (Is c.deref.result.now) (Is q) setting)
+      (subst (λ (q : List ℕ). Says false (Is c.deref.result.now) (Is q) setting)
       (c.deref-2.ensures.value ∙ c.in-Ok.ensures.queries) opens.say) in
       inr (
         setting,
