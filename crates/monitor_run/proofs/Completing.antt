@@ -109,6 +109,7 @@ watch_done words before now good ending (stay, inl (fails, untouched)) =
       ontology = good.asked.ontology;
       queries =
           good.asked.queries;
+      owl = good.asked.owl;
     }) before now good.files ending fails)
 watch_done words before now good ending (stay, inr (setting, opens, ends)) =
     stream_done _ _ before.ports now.ports good.stream good.left good.short good.no_read_fault
@@ -123,8 +124,8 @@ completeness status words before now eb en ran good =
 
 rewriting_done : (words : List (List ℕ)) (before now : Outside)
     (good : IsGoodRewriting words before now) (ending : Ending Refusal)
-    → AskedEnds (asked_by (rewrite good.names.ontology good.names.queries)) ending before now
-    → IsDone (status_of ending)
+    → AskedEnds (asked_by (rewrite good.names.ontology good.names.queries good.names.owl)) ending
+    before now → IsDone (status_of ending)
 rewriting_done words before now good ending (stay, inl (fails, untouched)) =
     for_memory ending (files_memory nothing_more good.names before now good.files ending fails)
 rewriting_done words before now good ending (stay, inr (setting, opens, ends)) =
@@ -134,14 +135,15 @@ pub rewriting_completeness : RewritingCompleteness
 rewriting_completeness status words before now eb en ran good =
     subst IsDone (sym ran.status_is)
     (by_meaning (IsDone (status_of ran.ending)) words
-    (rewrite good.names.ontology good.names.queries) before now good.words_mean ran.ending
+    (rewrite good.names.ontology good.names.queries good.names.owl) before now good.words_mean
+    ran.ending
     (λ is same. for_memory ran.ending is) (rewriting_done words before now good ran.ending)
     ran.ends)
 
 containment_done : (words : List (List ℕ)) (before now : Outside)
     (good : IsGoodContainment words before now) (ending : Ending Refusal)
-    → AskedEnds (asked_by (contain good.names.ontology good.names.queries)) ending before now
-    → IsDone (status_of ending)
+    → AskedEnds (asked_by (contain good.names.ontology good.names.queries good.names.owl)) ending
+    before now → IsDone (status_of ending)
 containment_done words before now good ending (stay, inl (fails, untouched)) =
     for_memory ending (files_memory refuses_no_leaf good.names before now good.files ending fails)
 containment_done words before now good ending (stay, inr (setting, opens, ends)) =
@@ -151,7 +153,8 @@ pub containment_completeness : ContainmentCompleteness
 containment_completeness status words before now eb en ran good =
     subst IsDone (sym ran.status_is)
     (by_meaning (IsDone (status_of ran.ending)) words
-    (contain good.names.ontology good.names.queries) before now good.words_mean ran.ending
+    (contain good.names.ontology good.names.queries good.names.owl) before now good.words_mean
+    ran.ending
     (λ is same. for_memory ran.ending is) (containment_done words before now good ran.ending)
     ran.ends)
 

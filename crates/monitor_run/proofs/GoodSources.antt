@@ -1,5 +1,5 @@
 -- Sources without a fault are opened but for want of memory.
-use Rattle.std.proofs.Common.{◌≡◌, ℕ, inl, inr, List, refl, sym, ◌∙◌}
+use Rattle.std.proofs.Common.{◌≡◌, ℕ, false, inl, inr, List, refl, sym, ◌∙◌}
 use Rattle.monitor_core.specs.Setting.{Setting}
 use Rattle.stream_report.specs.declared.ending.Ending.{Ending}
 use Rattle.stream_report.specs.declared.ending.Ending.TheVariants.{Done, Usage, Refused, ReadFault}
@@ -26,7 +26,7 @@ module _ (own : Setting → Refusal → Type 0) (names : FileNames) (before now 
       → ending ≡ Memory
   unread_memory Memory unread = refl
   unread_memory (Refused refusal) unread =
-      absurd (never_faulty (HasText before.files.held names.ontology)
+      absurd (never_faulty names.owl (HasText before.files.held names.ontology)
       (HasText before.files.held names.queries) (one_of names.ontology) (one_of names.queries)
       own good.setting good.opens refusal unread)
   unread_memory ReadFault (inl rose) = absurd (good.no_file_fault rose)
@@ -46,7 +46,7 @@ module _ (own : Setting → Refusal → Type 0) (names : FileNames) (before now 
       → OpeningFails own (FilesSay before.files.held names)
       (FilesUnread before.files now.files names) ending → ending ≡ Memory
   files_memory ending fails =
-      only_memory (HasText before.files.held names.ontology)
+      only_memory names.owl (HasText before.files.held names.ontology)
       (HasText before.files.held names.queries) (one_of names.ontology) (one_of names.queries)
       own good.setting good.opens
       (FilesUnread before.files now.files names) unread_memory ending fails
@@ -58,8 +58,8 @@ module _ (setting : Setting) (opens : Opens nothing_more MadeSay setting) where
       → ending ≡ Memory
   texts_memory Memory unread = refl
   texts_memory (Refused refusal) unread =
-      absurd (never_faulty (Is ontology_text) (Is queries_text) (λ a b x y. x ∙ sym y) (λ a b x y.
-      x ∙ sym y) nothing_more setting opens refusal unread)
+      absurd (never_faulty false (Is ontology_text) (Is queries_text) (λ a b x y. x ∙ sym y)
+      (λ a b x y. x ∙ sym y) nothing_more setting opens refusal unread)
   texts_memory Done unread = absurd unread
   texts_memory Usage unread = absurd unread
   texts_memory ReadFault unread = absurd unread
@@ -70,6 +70,6 @@ module _ (setting : Setting) (opens : Opens nothing_more MadeSay setting) where
       → OpeningFails nothing_more MadeSay (TextsUnread ontology_text queries_text) ending
       → ending ≡ Memory
   made_memory ending fails =
-      only_memory (Is ontology_text) (Is queries_text) (λ a b x y. x ∙ sym y) (λ a b x y.
+      only_memory false (Is ontology_text) (Is queries_text) (λ a b x y. x ∙ sym y) (λ a b x y.
       x ∙ sym y) nothing_more setting opens (TextsUnread ontology_text queries_text)
       texts_memory ending fails

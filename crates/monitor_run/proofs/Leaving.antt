@@ -1,5 +1,5 @@
 -- What runs leave as it was.
-use Rattle.std.proofs.Common.{◌≡◌, ℕ, inl, inr, List, sym, ◌∙◌, ap}
+use Rattle.std.proofs.Common.{◌≡◌, ℕ, Bool, inl, inr, List, sym, ◌∙◌, ap}
 use Rattle.std.specs.Prelude.{◌⊎◌}
 use Rattle.command_words.specs.Meanings.{Meaning, rewrite, contain, drill, meaning_of_words}
 use Rattle.command_words.specs.Meanings as meaning
@@ -10,7 +10,8 @@ use Rattle.stream_report.specs.Outside.{FilesTold, Outside}
 use Rattle.stream_report.proofs.TextEndings.{text_leaves}
 use Rattle.job_sources.specs.declared.refusal.Refusal.{Refusal}
 use Rattle.job_sources.specs.declared.refusal.Refusal.TheVariants.{BadOntology, TooManyRewritings}
-use Rattle.job_sources.specs.declared.refusal.Refusal.TheVariants.{BadQueries, NotALeaf}
+use Rattle.job_sources.specs.declared.refusal.Refusal.TheVariants.{BadDocument, BadQueries}
+use Rattle.job_sources.specs.declared.refusal.Refusal.TheVariants.{NotALeaf}
 use Rattle.monitor_run.specs.declared.status.Status.TheVariants as status
 use Rattle.monitor_run.specs.Ends.{status_of, status_of_refusal}
 use Rattle.monitor_run.specs.Jobs.{asked_by}
@@ -34,32 +35,37 @@ drill_leaves s words before now eb en seed count ran is =
     (λ memory same. (ap (λ (o : Outside). o.files) same, ap (λ (o : Outside). o.ports.input) same))
     (drill_leaves_both seed count before now ran.ending) ran.ends
 
-rewriting_leaves_input : (o q : List ℕ) (before now : Outside) (ending : Ending Refusal)
-    → AskedEnds (asked_by (rewrite o q)) ending before now → now.ports.input ≡ before.ports.input
-rewriting_leaves_input o q before now ending (stay, inl (fails, untouched)) = untouched.input
-rewriting_leaves_input o q before now ending (stay, inr (setting, opens, ends)) =
+rewriting_leaves_input : (o q : List ℕ) (owl : Bool) (before now : Outside)
+    (ending : Ending Refusal) → AskedEnds (asked_by (rewrite o q owl)) ending before now
+    → now.ports.input ≡ before.ports.input
+rewriting_leaves_input o q owl before now ending (stay, inl (fails, untouched)) = untouched.input
+rewriting_leaves_input o q owl before now ending (stay, inr (setting, opens, ends)) =
     text_leaves _ ending before.ports now.ports ends
 
 pub rewriting_leaves : RewritingLeaves
-rewriting_leaves s words before now eb en o q ran is =
-    by_meaning (now.ports.input ≡ before.ports.input) words (rewrite o q) before now is ran.ending
+rewriting_leaves s words before now eb en o q owl ran is =
+    by_meaning (now.ports.input ≡ before.ports.input) words (rewrite o q owl) before now is
+    ran.ending
     (λ memory same. ap (λ (o : Outside). o.ports.input) same)
-    (rewriting_leaves_input o q before now ran.ending) ran.ends
+    (rewriting_leaves_input o q owl before now ran.ending) ran.ends
 
-containment_leaves_input : (o q : List ℕ) (before now : Outside) (ending : Ending Refusal)
-    → AskedEnds (asked_by (contain o q)) ending before now → now.ports.input ≡ before.ports.input
-containment_leaves_input o q before now ending (stay, inl (fails, untouched)) = untouched.input
-containment_leaves_input o q before now ending (stay, inr (setting, opens, ends)) =
+containment_leaves_input : (o q : List ℕ) (owl : Bool) (before now : Outside)
+    (ending : Ending Refusal) → AskedEnds (asked_by (contain o q owl)) ending before now
+    → now.ports.input ≡ before.ports.input
+containment_leaves_input o q owl before now ending (stay, inl (fails, untouched)) = untouched.input
+containment_leaves_input o q owl before now ending (stay, inr (setting, opens, ends)) =
     text_leaves _ ending before.ports now.ports ends
 
 pub containment_leaves : ContainmentLeaves
-containment_leaves s words before now eb en o q ran is =
-    by_meaning (now.ports.input ≡ before.ports.input) words (contain o q) before now is ran.ending
+containment_leaves s words before now eb en o q owl ran is =
+    by_meaning (now.ports.input ≡ before.ports.input) words (contain o q owl) before now is
+    ran.ending
     (λ memory same. ap (λ (o : Outside). o.ports.input) same)
-    (containment_leaves_input o q before now ran.ending) ran.ends
+    (containment_leaves_input o q owl before now ran.ending) ran.ends
 
 refusal_is_no_usage : (refusal : Refusal) → status.Usage ≡ status_of_refusal refusal → ⊥
 refusal_is_no_usage (BadOntology line kind) is = cc
+refusal_is_no_usage (BadDocument line kind) is = cc
 refusal_is_no_usage TooManyRewritings is = cc
 refusal_is_no_usage (BadQueries line kind) is = cc
 refusal_is_no_usage (NotALeaf name) is = cc
@@ -88,13 +94,13 @@ refused_leaves (meaning.watch w) refusal before now (stay, inl (fails, untouched
     (stay, untouched.input, untouched.out)
 refused_leaves (meaning.watch w) refusal before now (stay, inr (setting, opens, (run, fault))) =
     absurd run.writes
-refused_leaves (meaning.rewrite o q) refusal before now (stay, inl (fails, untouched)) =
+refused_leaves (meaning.rewrite o q owl) refusal before now (stay, inl (fails, untouched)) =
     (stay, untouched.input, untouched.out)
-refused_leaves (meaning.rewrite o q) refusal before now
+refused_leaves (meaning.rewrite o q owl) refusal before now
     (stay, inr (setting, opens, (input, (text, is, written), fault))) = absurd written.is
-refused_leaves (meaning.contain o q) refusal before now (stay, inl (fails, untouched)) =
+refused_leaves (meaning.contain o q owl) refusal before now (stay, inl (fails, untouched)) =
     (stay, untouched.input, untouched.out)
-refused_leaves (meaning.contain o q) refusal before now
+refused_leaves (meaning.contain o q owl) refusal before now
     (stay, inr (setting, opens, (input, (text, is, written), fault))) = absurd written.is
 refused_leaves (meaning.drill seed count) refusal before now (files, inl (fails, untouched)) =
     (ap (λ (f : FilesTold). f.held) files, untouched.input, untouched.out)

@@ -16,7 +16,8 @@ use Rattle.stream_report.specs.Told.{Part}
 use Rattle.stream_report.proofs.ReportLaws.{limit_is_exact}
 use Rattle.job_sources.specs.declared.refusal.Refusal.{Refusal}
 use Rattle.job_sources.specs.declared.refusal.Refusal.TheVariants.{BadOntology, TooManyRewritings}
-use Rattle.job_sources.specs.declared.refusal.Refusal.TheVariants.{BadQueries, NotALeaf}
+use Rattle.job_sources.specs.declared.refusal.Refusal.TheVariants.{BadDocument, BadQueries}
+use Rattle.job_sources.specs.declared.refusal.Refusal.TheVariants.{NotALeaf}
 use Rattle.monitor_run.specs.declared.status.Status.TheVariants as status
 use Rattle.monitor_run.specs.Ends.{status_of, status_of_refusal}
 use Rattle.job_sources.specs.FileNames.{FileNames}
@@ -34,6 +35,7 @@ use Rattle.watch_report.proofs.OneReport.{watching_once}
 
 no_refusal_status : (refusal : Refusal) → status_of_refusal refusal ≡ status.StreamLimit → ⊥
 no_refusal_status (BadOntology line kind) is = cc
+no_refusal_status (BadDocument line kind) is = cc
 no_refusal_status TooManyRewritings is = cc
 no_refusal_status (BadQueries line kind) is = cc
 no_refusal_status (NotALeaf name) is = cc
@@ -87,7 +89,11 @@ none_taken before now taken left told later same =
 module _ (words : List (List ℕ)) (before now : Outside) (taken wrote : List ℕ)
     (w : Watches words before now taken wrote) where
   abbrev names : FileNames
-  names = record { ontology = w.asked.ontology; queries = w.asked.queries }
+  names = record {
+    ontology = w.asked.ontology;
+    queries = w.asked.queries;
+    owl = w.asked.owl;
+  }
 
   abbrev task : Setting → Task
   task setting = record { setting = setting; options = options_of w.asked }
@@ -132,7 +138,7 @@ module _ (words : List (List ℕ)) (before now : Outside) (taken wrote : List �
   )
   asked_exactly ending other (stay, inr (setting, opens, (run, fault))) =
       let same : setting ≡ w.setting =
-      same_setting (HasText before.files.held names.ontology)
+      same_setting names.owl (HasText before.files.held names.ontology)
       (HasText before.files.held names.queries) (one_of names.ontology) (one_of names.queries)
       setting w.setting opens.say w.opens.say in
       streamed ending other (subst (λ (s : Setting).

@@ -22,15 +22,15 @@ never_usage (meaning.watch w) before now (stay, inl (inl unread, untouched)) = u
 never_usage (meaning.watch w) before now (stay, inl (inr (setting, say, refused), untouched)) =
     refused
 never_usage (meaning.watch w) before now (stay, inr (setting, opens, (run, fault))) = run.writes
-never_usage (meaning.rewrite o q) before now (stay, inl (inl unread, untouched)) = unread
-never_usage (meaning.rewrite o q) before now (stay, inl (inr (setting, say, refused), untouched)) =
-    refused
-never_usage (meaning.rewrite o q) before now
+never_usage (meaning.rewrite o q owl) before now (stay, inl (inl unread, untouched)) = unread
+never_usage (meaning.rewrite o q owl) before now
+    (stay, inl (inr (setting, say, refused), untouched)) = refused
+never_usage (meaning.rewrite o q owl) before now
     (stay, inr (setting, opens, (input, (text, is, written), fault))) = written.is
-never_usage (meaning.contain o q) before now (stay, inl (inl unread, untouched)) = unread
-never_usage (meaning.contain o q) before now (stay, inl (inr (setting, say, refused), untouched)) =
-    refused
-never_usage (meaning.contain o q) before now
+never_usage (meaning.contain o q owl) before now (stay, inl (inl unread, untouched)) = unread
+never_usage (meaning.contain o q owl) before now
+    (stay, inl (inr (setting, say, refused), untouched)) = refused
+never_usage (meaning.contain o q owl) before now
     (stay, inr (setting, opens, (input, (text, is, written), fault))) = written.is
 never_usage (meaning.drill seed count) before now (stay, inl (inl unread, untouched)) = unread
 never_usage (meaning.drill seed count) before now

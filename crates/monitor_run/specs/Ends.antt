@@ -9,14 +9,18 @@ use Rattle.stream_report.specs.declared.ending.Ending.TheVariants.{Done, Usage, 
 use Rattle.stream_report.specs.declared.ending.Ending.TheVariants.{WriteFault, Memory, StreamLimit}
 use Rattle.job_sources.specs.declared.refusal.Refusal.{Refusal}
 use Rattle.job_sources.specs.declared.refusal.Refusal.TheVariants.{BadOntology, TooManyRewritings}
-use Rattle.job_sources.specs.declared.refusal.Refusal.TheVariants.{BadQueries, NotALeaf}
+use Rattle.job_sources.specs.declared.refusal.Refusal.TheVariants.{BadDocument, BadQueries}
+use Rattle.job_sources.specs.declared.refusal.Refusal.TheVariants.{NotALeaf}
+use Rattle.owl_reader.specs.declared.reading.OwlKind.{OwlKind}
+use Rattle.owl_reader.specs.declared.reading.OwlKind.TheVariants as document_kind
 use Rattle.monitor_run.specs.declared.status.Status.{Status}
-use Rattle.job_sources.specs.Names.{name_in}
+use Rattle.short_names.specs.Names.{name_in}
 use Rattle.monitor_run.specs.declared.status.Status.TheVariants as status
 
 -- the status of a run whose sources were refused
 abbrev pub status_of_refusal : Refusal → Status
 status_of_refusal (BadOntology line kind) = status.BadOntology
+status_of_refusal (BadDocument line kind) = status.BadOntology
 status_of_refusal TooManyRewritings = status.BadOntology
 status_of_refusal (BadQueries line kind) = status.BadQueries
 status_of_refusal (NotALeaf name) = status.BadQueries
@@ -38,6 +42,16 @@ kind_text kind.WrongKind = codes "wrong-kind"
 kind_text kind.TooMany = codes "too-many"
 kind_text kind.TooLong = codes "too-long"
 
+abbrev pub document_kind_text : OwlKind → List ℕ
+document_kind_text document_kind.TooLong = codes "too-long"
+document_kind_text document_kind.BadOwl = codes "bad-owl"
+document_kind_text (document_kind.Unsupported word) = codes "unsupported " ++ name_in word
+document_kind_text document_kind.Unknown = codes "unknown"
+document_kind_text document_kind.BadName = codes "bad-name"
+document_kind_text document_kind.NameTwice = codes "name-twice"
+document_kind_text document_kind.WrongKind = codes "wrong-kind"
+document_kind_text document_kind.TooMany = codes "too-many"
+
 abbrev pub query_kind_text : QueryKind → List ℕ
 query_kind_text query_kind.BadQuery = codes "bad-query"
 query_kind_text query_kind.NameTwice = codes "name-twice"
@@ -52,6 +66,8 @@ query_kind_text query_kind.TooLong = codes "too-long"
 abbrev pub refusal_text : Refusal → List ℕ
 refusal_text (BadOntology line kind) =
     codes "ontology line " ++ decimal line ++ codes ": " ++ kind_text kind
+refusal_text (BadDocument line kind) =
+    codes "ontology line " ++ decimal line ++ codes ": " ++ document_kind_text kind
 refusal_text TooManyRewritings = codes "ontology: too-many-rewritings"
 refusal_text (BadQueries line kind) =
     codes "queries line " ++ decimal line ++ codes ": " ++ query_kind_text kind

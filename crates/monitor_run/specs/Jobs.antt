@@ -22,9 +22,10 @@ asked_by (meaning.watch w) = on_files (record {
   ontology = w.ontology;
   queries =
       w.queries;
+  owl = w.owl;
 }) (Watch (options_of w))
-asked_by (meaning.rewrite ontology queries) =
-    on_files (record { ontology = ontology; queries = queries }) Rewrite
-asked_by (meaning.contain ontology queries) =
-    on_files (record { ontology = ontology; queries = queries }) Contain
+asked_by (meaning.rewrite ontology queries owl) =
+    on_files (record { ontology = ontology; queries = queries; owl = owl }) Rewrite
+asked_by (meaning.contain ontology queries owl) =
+    on_files (record { ontology = ontology; queries = queries; owl = owl }) Contain
 asked_by (meaning.drill seed count) = drill seed count

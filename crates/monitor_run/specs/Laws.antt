@@ -1,5 +1,6 @@
 -- Laws of runs.
-use Rattle.std.specs.Prelude.{◌≡◌, ◌≢◌, ◌⊎◌, ◌↔◌, ℕ, ◌<◌, ◌≤◌, ◌^◌, List, ◌++◌, Some, length}
+use Rattle.std.specs.Prelude.{◌≡◌, ◌≢◌, ◌⊎◌, ◌↔◌, ℕ, ◌<◌, ◌≤◌, ◌^◌, Bool, List, ◌++◌, Some}
+use Rattle.std.specs.Prelude.{length}
 use Rattle.edge_io.specs.Causes.{Rose}
 use Rattle.edge_io.specs.Held.{Store}
 use Rattle.edge_io.specs.Lines.{whole_items}
@@ -43,6 +44,7 @@ pub record IsGood (words : List (List ℕ)) (before now : Outside) : Type 0 wher
     ontology = asked.ontology;
     queries =
         asked.queries;
+    owl = asked.owl;
   }) before now
   pub stream : List ℕ
   pub left : before.ports.input.left ≡ Some stream
@@ -52,14 +54,14 @@ pub record IsGood (words : List (List ℕ)) (before now : Outside) : Type 0 wher
 -- the words are of a rewriting by such files
 pub record IsGoodRewriting (words : List (List ℕ)) (before now : Outside) : Type 0 where
   pub names : FileNames
-  pub words_mean : meaning_of_words words ≡ Some (rewrite names.ontology names.queries)
+  pub words_mean : meaning_of_words words ≡ Some (rewrite names.ontology names.queries names.owl)
   pub files : HasGoodFiles nothing_more names before now
 
 -- the words are of a test of containment by such files, whose queries are leaves that name all
 -- their answer variables
 pub record IsGoodContainment (words : List (List ℕ)) (before now : Outside) : Type 0 where
   pub names : FileNames
-  pub words_mean : meaning_of_words words ≡ Some (contain names.ontology names.queries)
+  pub words_mean : meaning_of_words words ≡ Some (contain names.ontology names.queries names.owl)
   pub files : HasGoodFiles refuses_no_leaf names before now
 
 -- the words are of a drill, what it makes reaches no more than may be, and the output had no fault
@@ -114,18 +116,18 @@ DrillLeaves =
 abbrev pub RewritingLeaves : Type 0
 RewritingLeaves =
     (status : Status) (words : List (List ℕ)) (before now : Outside) (err_before err_now : SinkTold)
-    (ontology queries : List ℕ) →
+    (ontology queries : List ℕ) (owl : Bool) →
     Ran status words before now err_before err_now
-    → meaning_of_words words ≡ Some (rewrite ontology queries) →
+    → meaning_of_words words ≡ Some (rewrite ontology queries owl) →
     now.ports.input ≡ before.ports.input
 
 -- so does a test of containment
 abbrev pub ContainmentLeaves : Type 0
 ContainmentLeaves =
     (status : Status) (words : List (List ℕ)) (before now : Outside) (err_before err_now : SinkTold)
-    (ontology queries : List ℕ) →
+    (ontology queries : List ℕ) (owl : Bool) →
     Ran status words before now err_before err_now
-    → meaning_of_words words ≡ Some (contain ontology queries) →
+    → meaning_of_words words ≡ Some (contain ontology queries owl) →
     now.ports.input ≡ before.ports.input
 
 -- words of no command leave everything as it was
@@ -156,6 +158,7 @@ pub record Watches (words : List (List ℕ)) (before now : Outside) (taken wrote
       ontology =
           asked.ontology;
       queries = asked.queries;
+      owl = asked.owl;
     })) setting
     pub left : List ℕ
     pub input_before : before.ports.input.left ≡ Some (taken ++ left)

@@ -59,6 +59,7 @@ fn perform<F: Files, S: Source, K: Sink>(
             let names = Names {
                 ontology: asked.ontology,
                 queries: asked.queries,
+                owl: asked.owl,
             };
             do_job(
                 alloc,
@@ -69,12 +70,28 @@ fn perform<F: Files, S: Source, K: Sink>(
                 out,
             )
         }
-        Request::Rewrite { ontology, queries } => {
-            let names = Names { ontology, queries };
+        Request::Rewrite {
+            ontology,
+            queries,
+            owl,
+        } => {
+            let names = Names {
+                ontology,
+                queries,
+                owl,
+            };
             do_job(alloc, names, Job::Rewrite, files, input, out)
         }
-        Request::Contain { ontology, queries } => {
-            let names = Names { ontology, queries };
+        Request::Contain {
+            ontology,
+            queries,
+            owl,
+        } => {
+            let names = Names {
+                ontology,
+                queries,
+                owl,
+            };
             do_job(alloc, names, Job::Contain, files, input, out)
         }
         Request::Drill { seed, count } => drill(alloc, seed, count, out),
@@ -105,6 +122,7 @@ fn refusal_status(refusal: Refusal) -> Status
 {
     match refusal {
         Refusal::BadOntology(_, _) => Status::BadOntology,
+        Refusal::BadDocument(_, _) => Status::BadOntology,
         Refusal::TooManyRewritings => Status::BadOntology,
         Refusal::BadQueries(_, _) => Status::BadQueries,
         Refusal::NotALeaf(_) => Status::BadQueries,

@@ -2,12 +2,14 @@
 
 ghost use Rattle.std.specs.Prelude.{◌≡◌, ◌++◌, ◌+◌, ◌≤◌, length};
 ghost use Rattle.arrayvec.specs.ArrayVec.{array_vec_len};
-ghost use Rattle.monitor_run.specs.Ends.{kind_text, query_kind_text, line_of};
+ghost use Rattle.monitor_run.specs.Ends.{document_kind_text, kind_text, query_kind_text, line_of};
 
 use arrayvec::ArrayVec;
 use itoa::Buffer;
-use job_sources::{QueryName, Refusal};
+use job_sources::Refusal;
 use ontology_reader::OntologyKind;
+use owl_reader::OwlKind;
+use short_names::ShortName;
 use stream_report::Ending;
 use tcq_reader::QueryKind;
 
@@ -45,6 +47,49 @@ fn put_fault(out: &mut ArrayVec<u8, 256>, line: u64, kind: OntologyKind)
     put(out, buffer.format(line).as_bytes());
     put(out, b": ");
     put(out, kind_word(kind));
+    put(out, b"\n");
+}
+
+/// Appends a word that isn't taken.
+fn put_unsupported(out: &mut ArrayVec<u8, 256>, word: ShortName)
+    requires { array_vec_len out.old ≤ 128 }
+    ensures items { out.new.items
+        ≡ out.old.items ++ document_kind_text (OwlKind.Unsupported word) }
+    ensures len { array_vec_len out.new ≤ array_vec_len out.old + 80 }
+{
+    put(out, b"unsupported ");
+    put(out, word.text());
+}
+
+/// Appends what is wrong with a document.
+fn put_document_kind(out: &mut ArrayVec<u8, 256>, kind: OwlKind)
+    requires { array_vec_len out.old ≤ 128 }
+    ensures items { out.new.items ≡ out.old.items ++ document_kind_text kind }
+    ensures len { array_vec_len out.new ≤ array_vec_len out.old + 80 }
+{
+    match kind {
+        OwlKind::TooLong => put(out, b"too-long"),
+        OwlKind::BadOwl => put(out, b"bad-owl"),
+        OwlKind::Unsupported(word) => put_unsupported(out, word),
+        OwlKind::Unknown => put(out, b"unknown"),
+        OwlKind::BadName => put(out, b"bad-name"),
+        OwlKind::NameTwice => put(out, b"name-twice"),
+        OwlKind::WrongKind => put(out, b"wrong-kind"),
+        OwlKind::TooMany => put(out, b"too-many"),
+    }
+}
+
+/// The line of a document's fault.
+fn put_document_fault(out: &mut ArrayVec<u8, 256>, line: u64, kind: OwlKind)
+    requires { array_vec_len out.old ≡ 0 }
+    ensures { out.new.items ≡ out.old.items
+        ++ line_of (Ending.Refused (Refusal.BadDocument line kind)) }
+{
+    let mut buffer = Buffer::new();
+    put(out, b"tom: ontology line ");
+    put(out, buffer.format(line).as_bytes());
+    put(out, b": ");
+    put_document_kind(out, kind);
     put(out, b"\n");
 }
 
@@ -92,7 +137,7 @@ fn put_query_fault(out: &mut ArrayVec<u8, 256>, line: u64, kind: QueryKind)
 }
 
 /// The line of a query that is no leaf.
-fn put_no_leaf(out: &mut ArrayVec<u8, 256>, name: QueryName)
+fn put_no_leaf(out: &mut ArrayVec<u8, 256>, name: ShortName)
     requires { array_vec_len out.old ≡ 0 }
     ensures { out.new.items ≡ out.old.items ++ line_of (Ending.Refused (Refusal.NotALeaf name)) }
 {
@@ -108,6 +153,7 @@ fn put_refusal(out: &mut ArrayVec<u8, 256>, refusal: Refusal)
 {
     match refusal {
         Refusal::BadOntology(line, kind) => put_fault(out, line, kind),
+        Refusal::BadDocument(line, kind) => put_document_fault(out, line, kind),
         Refusal::TooManyRewritings => put(out, b"tom: ontology: too-many-rewritings\n"),
         Refusal::BadQueries(line, kind) => put_query_fault(out, line, kind),
         Refusal::NotALeaf(name) => put_no_leaf(out, name),

@@ -4,6 +4,7 @@ ghost use Rattle.std.specs.Prelude.{◌≤◌};
 
 mod answers;
 mod containing;
+mod documents;
 mod limits;
 mod refusals;
 mod rewriting;
@@ -59,7 +60,7 @@ fn files_of(alloc: Global, ontology: &[u8], queries: &[u8]) -> Result<MemFiles, 
 }
 
 /// These words, owned.
-fn words_of(alloc: Global, words: [&str; 3]) -> Result<Vec<String>, Fail> {
+fn words_of<const N: usize>(alloc: Global, words: [&str; N]) -> Result<Vec<String>, Fail> {
     let mut owned = Vec::new(alloc);
     for word in words {
         owned.push(String::from_str(alloc, word)?)?;
@@ -68,9 +69,9 @@ fn words_of(alloc: Global, words: [&str; 3]) -> Result<Vec<String>, Fail> {
 }
 
 /// Runs a command with files, and a stream that comes through ports.
-fn ran(
+fn ran<const N: usize>(
     alloc: Global,
-    words: [&str; 3],
+    words: [&str; N],
     ontology: &[u8],
     queries: &[u8],
     ports: Ports<'_>,
