@@ -20,4 +20,5 @@ returns c =
     declared_rows_of c.args.index.now c.args.query.now c.from_ref.result.now
     c.from_ref.ensures.value c.args.count
     c.in_ok-rows.rows c.in_ok-kept.kept (c.in_ok-rows.ensures.arity ∙ ap length c.as_slice.ensures)
-    c.in_ok-kept.ensures.wide c.in_ok-kept.ensures.rising c.in_ok-rows.ensures.rows c.in_ok-kept.ensures.rows
+    c.in_ok-kept.ensures.wide c.in_ok-kept.ensures.rising c.in_ok-rows.ensures.rows
+    c.in_ok-kept.ensures.rows
