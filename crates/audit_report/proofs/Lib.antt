@@ -1,0 +1,5 @@
+pub mod Pieces
+pub mod Rows
+pub mod Replies
+pub mod OneFinding
+pub mod OneText

@@ -1,0 +1,29 @@
+//! The command `audit`.
+
+ghost use Rattle.stream_report.specs.Outside.{outside_of};
+ghost use Rattle.job_sources.specs.FileNames.{file_names};
+ghost use Rattle.audit_report.specs.Ends.{AuditEnds};
+
+use crate::auditor::audit_stream;
+use edge_io::{Files, Sink, Source};
+use job_sources::{Names, Refusal, open_files};
+use std::alloc::Global;
+use stream_report::Ending;
+
+/// Audits the models of the input by the files of these names.
+pub fn audit_files<F: Files, S: Source, K: Sink>(
+    alloc: Global,
+    names: Names<'_>,
+    files: &mut F,
+    input: &mut S,
+    out: &mut K,
+) -> Ending<Refusal>
+    ensures ends { AuditEnds (file_names names.entry) result
+        (outside_of F.Files S.Source K.Sink files.old input.old out.old)
+        (outside_of F.Files S.Source K.Sink files.new input.new out.new) }
+{
+    match open_files(alloc, files, names) {
+        Ok(monitor) => audit_stream(alloc, monitor.ontology(), monitor.queries(), input, out),
+        Err(ending) => ending,
+    }
+}
