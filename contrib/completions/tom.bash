@@ -12,7 +12,9 @@ _tom() {
     elif [ "$command" = watch ] && [ "$before" = --report ]; then
         words='text json csv'
     elif [ "$command" = watch ] && [[ $word == -* ]]; then
-        words='--form --report --sizes'
+        words='--owl --form --report --sizes'
+    elif [ "$command" != drill ] && [[ $word == -* ]]; then
+        words=--owl
     elif [ "$command" != drill ]; then
         mapfile -t COMPREPLY < <(compgen -f -- "$word")
         return

@@ -7,4 +7,5 @@ complete -c tom -n "not __fish_seen_subcommand_from $commands" -f -a drill -d 'w
 complete -c tom -n '__fish_seen_subcommand_from watch' -l form -x -a 'text json' -d 'how the stream is written'
 complete -c tom -n '__fish_seen_subcommand_from watch' -l report -x -a 'text json csv' -d 'how the report is written'
 complete -c tom -n '__fish_seen_subcommand_from watch' -l sizes -d 'how much is kept of each query'
+complete -c tom -n '__fish_seen_subcommand_from watch rewrite contain' -l owl -d 'the ontology is an OWL 2 document'
 complete -c tom -n '__fish_seen_subcommand_from drill' -f
