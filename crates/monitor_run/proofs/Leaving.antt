@@ -85,7 +85,7 @@ usage_leaves words before now eb en ran =
     usage_untouched words before now ran.ending ran.status_is ran.ends
 
 abbrev Left : Outside → Outside → Type 0
-Left before now = (now.files.held ≡ before.files.held) × (now.ports.input ≡ before.ports.input)
+Left before now = (now.files ≡ before.files) × (now.ports.input ≡ before.ports.input)
     × (now.ports.out ≡ before.ports.out)
 
 refused_leaves : (means : Meaning) (refusal : Refusal) (before now : Outside)
@@ -103,7 +103,7 @@ refused_leaves (meaning.contain o q owl) refusal before now (stay, inl (fails, u
 refused_leaves (meaning.contain o q owl) refusal before now
     (stay, inr (setting, opens, (input, (text, is, written), fault))) = absurd written.is
 refused_leaves (meaning.drill seed count) refusal before now (files, inl (fails, untouched)) =
-    (ap (λ (f : FilesTold). f.held) files, untouched.input, untouched.out)
+    (files, untouched.input, untouched.out)
 refused_leaves (meaning.drill seed count) refusal before now
     (files, inr (setting, opens, (input, (text, is, written), fault))) = absurd written.is
 

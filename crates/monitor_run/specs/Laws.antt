@@ -143,7 +143,7 @@ RefusalLeaves =
     →
     Ran status words before now err_before err_now → (status ≡ BadOntology) ⊎ (status ≡ BadQueries)
     →
-    (now.files.held ≡ before.files.held) × (now.ports.input ≡ before.ports.input)
+    (now.files ≡ before.files) × (now.ports.input ≡ before.ports.input)
     × (now.ports.out ≡ before.ports.out)
 
 -- a watch whose files, input and output are told took these bytes and wrote these
