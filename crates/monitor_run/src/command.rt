@@ -41,6 +41,19 @@ fn do_job<F: Files, S: Source, K: Sink>(
     }
 }
 
+/// The names of the files of the ontology and of the queries, and whether the ontology is an OWL 2
+/// document.
+fn named<'a>(ontology: &'a str, queries: &'a str, owl: bool) -> Names<'a>
+    ensures { file_names result
+        ≡ record { ontology = ontology.now; queries = queries.now; owl = owl } }
+{
+    Names {
+        ontology,
+        queries,
+        owl,
+    }
+}
+
 /// Does what is asked for.
 fn perform<F: Files, S: Source, K: Sink>(
     alloc: Global,
@@ -56,11 +69,7 @@ fn perform<F: Files, S: Source, K: Sink>(
 {
     match request {
         Request::Watch(asked) => {
-            let names = Names {
-                ontology: asked.ontology,
-                queries: asked.queries,
-                owl: asked.owl,
-            };
+            let names = named(asked.ontology, asked.queries, asked.owl);
             do_job(
                 alloc,
                 names,
@@ -75,11 +84,7 @@ fn perform<F: Files, S: Source, K: Sink>(
             queries,
             owl,
         } => {
-            let names = Names {
-                ontology,
-                queries,
-                owl,
-            };
+            let names = named(ontology, queries, owl);
             do_job(alloc, names, Job::Rewrite, files, input, out)
         }
         Request::Contain {
@@ -87,11 +92,7 @@ fn perform<F: Files, S: Source, K: Sink>(
             queries,
             owl,
         } => {
-            let names = Names {
-                ontology,
-                queries,
-                owl,
-            };
+            let names = named(ontology, queries, owl);
             do_job(alloc, names, Job::Contain, files, input, out)
         }
         Request::Drill { seed, count } => drill(alloc, seed, count, out),
