@@ -10,3 +10,4 @@ mod Arrivals
 mod HistoryLaws
 mod Rehearsals
 pub mod OneReport
+mod InModels

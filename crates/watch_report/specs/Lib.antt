@@ -7,3 +7,4 @@ pub mod Props
 pub mod Drill
 pub mod Ends
 pub mod ReportLaws
+pub mod CommonAnswers

@@ -1,9 +1,16 @@
 //! Laws of what is told of lines, and of reports, each the contract of a function with nothing to
 //! do.
+ghost use Rattle.watch_report.specs.CommonAnswers.{AnswersAreCommon};
 ghost use Rattle.watch_report.specs.ReportLaws.{OneOutcome, OneLine, OneTold, ToldJoined};
 ghost use Rattle.watch_report.specs.ReportLaws.{ToldParts, OneReport, OnePart, BeginsPart};
 ghost use Rattle.watch_report.specs.ReportLaws.{BeginsWhole, CutShort, LimitIsExact, OneDrill};
 ghost use Rattle.watch_report.specs.ReportLaws.{HistoriesGoOn, HistoriesAreTold};
+
+/// The accepted snapshots are consistent, and after each of them exactly the rows are told for
+/// which a query holds in every sequence of models of the accepted snapshots.
+pub fn answers_are_common()
+    ensures { AnswersAreCommon }
+{}
 
 /// A line has one outcome.
 pub fn one_outcome()
