@@ -1,6 +1,7 @@
 -- What clap's own test takes has no fault by its exact function, definition by definition.
 use Rattle.std.proofs.Common.{◌≡◌, ◌∙◌, ◌≤◌, ◌+◌, ◌&&◌, ◌||◌, ℕ, zero, suc, Bool, true, false}
-use Rattle.std.proofs.Common.{not, refl, sym, ap, List, [], ◌∷◌, length, drop, min, Option, Some, None}
+use Rattle.std.proofs.Common.{not, refl, sym, ap, List, [], ◌∷◌, length, drop, min, Option, Some}
+use Rattle.std.proofs.Common.{None}
 use Rattle.std.proofs.Common.{arith, find, is_some, true≢false, codes}
 use Rattle.std.specs.Prelude.{◌==◌, encode_utf8, if◌then◌else◌, nat_le, nat_lt, slice_get}
 use Rattle.std.specs.List.{list_all, list_any}

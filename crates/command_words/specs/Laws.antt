@@ -19,5 +19,5 @@ CanonicalWordsMean = (c : Canonical)
 pub record TakenWordsMean : Type 0 where
   pub means : (words : List Text) → (taken : MeansIfTaken words)
       → meaning_of_words words ≡ meaning_in taken.command (rows_in taken.command words)
-  pub never_refused : (words : List Text) → MeansIfTaken words → (answer : Result Request WordsFault)
-      → Answers (meaning_of_words words) answer → answer ≢ Err Usage
+  pub never_refused : (words : List Text) → MeansIfTaken words
+      → (answer : Result Request WordsFault) → Answers (meaning_of_words words) answer → answer ≢ Err Usage

@@ -19,8 +19,8 @@ FilesEnd own names ends ending before now =
     (OpeningFails own (FilesSay before.files.held names) (FilesUnread before.files now.files names))
     ends ending before.ports now.ports
 
--- no file changed, and none of their faults was counted but where one of them wasn't read, the input
--- wasn't or memory ran out
+-- no file changed, and none of their faults was counted but where one of them wasn't read, the
+-- input wasn't or memory ran out
 abbrev pub FilesStay : Ending Refusal → FilesTold → FilesTold → Type 0
 FilesStay ReadFault before now = now.held ≡ before.held
 FilesStay Memory before now = now.held ≡ before.held

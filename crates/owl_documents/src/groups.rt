@@ -3,7 +3,8 @@
 ghost use Rattle.std.specs.Prelude.{List, ℕ, ◌≡◌, ◌<◌, ◌+◌, ◌≤◌, ◌^◌, IfOk, IfSome, length, map};
 ghost use Rattle.std.specs.Option.{option_map};
 ghost use Rattle.owl_tokens.specs.Tokens.{lexeme};
-ghost use Rattle.owl_documents.specs.Terms.{stops_at, is_open, is_close, is_equal, is_word, group_of};
+ghost use Rattle.owl_documents.specs.Terms.{stops_at, is_open, is_close, is_equal, is_word};
+ghost use Rattle.owl_documents.specs.Terms.{group_of};
 ghost use Rattle.owl_documents.specs.Terms.{open_first, close_first, group_step, group_end};
 ghost use Rattle.owl_documents.specs.Views.{Gives};
 

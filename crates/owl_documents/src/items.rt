@@ -7,7 +7,8 @@ ghost use Rattle.owl_documents.specs.Terms as t;
 ghost use Rattle.owl_documents.specs.Items as i;
 ghost use Rattle.owl_documents.specs.Views.{Gives, IsStop, first_seen, room_behind, entity_seen};
 ghost use Rattle.owl_documents.specs.Views.{role_seen, class_seen};
-ghost use Rattle.owl_documents.specs.ItemViews.{content_seen, axiom_seen, declaration_seen, item_seen};
+ghost use Rattle.owl_documents.specs.ItemViews.{content_seen, axiom_seen, declaration_seen};
+ghost use Rattle.owl_documents.specs.ItemViews.{item_seen};
 
 use crate::groups::{Stop, close_first, group_end, group_of, is_close, is_word, open_first};
 use crate::terms::{

@@ -1,7 +1,8 @@
 -- What isn't taken, in the order in which it is written.
 use Rattle.std.specs.Prelude.{List, [], ◌∷◌, Option, Some, None}
 use Rattle.owl_tokens.specs.Tokens.{Lexeme}
-use Rattle.owl_documents.specs.Terms.{Entity, named, refused, Role, Class, everything, only, some_of}
+use Rattle.owl_documents.specs.Terms.{Entity, named, refused, Role, Class, everything, only}
+use Rattle.owl_documents.specs.Terms.{some_of}
 use Rattle.owl_documents.specs.Terms.{some_in}
 use Rattle.owl_documents.specs.Items.{Axiom, Item, silent, not_taken, declares, states}
 

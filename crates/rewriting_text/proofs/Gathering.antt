@@ -107,7 +107,8 @@ node_large e query name nodes place n name_is nodes_is below read large =
     ap (λ (x : List ℕ). leaves_from x 0 nodes) name_is
     ∙ ap (leaves_from query.name 0) nodes_is in
     subst (HasLargeLeaf e) same
-    (large_among e (leaves_from name 0 (take place nodes)) (leaf_of name place (get_or nodes place n))
+    (large_among e (leaves_from name 0 (take place nodes))
+    (leaf_of name place (get_or nodes place n))
     (leaves_from name (0 + length (take (place + 1) nodes)) (drop (place + 1) nodes))
     (leaves_from name 0 nodes) (leaves_split name nodes place n below)
     (subst (λ (m : Node). HasLargeLeaf e (leaf_of name place m)) read large))

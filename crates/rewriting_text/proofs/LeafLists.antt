@@ -95,10 +95,12 @@ module _ (leaf : NamedLeaf) where
   among_nodes name place (node.WeakPrev f ∷ nodes) there = among_nodes name (place + 1) nodes there
   among_nodes name place (node.Until f g ∷ nodes) there = among_nodes name (place + 1) nodes there
   among_nodes name place (node.Since f g ∷ nodes) there = among_nodes name (place + 1) nodes there
-  among_nodes name place (node.Eventually f ∷ nodes) there = among_nodes name (place + 1) nodes there
+  among_nodes name place (node.Eventually f ∷ nodes) there =
+      among_nodes name (place + 1) nodes there
   among_nodes name place (node.Always f ∷ nodes) there = among_nodes name (place + 1) nodes there
   among_nodes name place (node.Once f ∷ nodes) there = among_nodes name (place + 1) nodes there
-  among_nodes name place (node.Historically f ∷ nodes) there = among_nodes name (place + 1) nodes there
+  among_nodes name place (node.Historically f ∷ nodes) there =
+      among_nodes name (place + 1) nodes there
 
   -- what a leaf of queries asks is among what the monitor's leaves ask
   pub among_all : (queries : List Tcq) → Contains (leaves queries) leaf

@@ -18,7 +18,8 @@ returns-in_err-gather_queries-clause-many c = λ h.
     let same : p.0 ≡ TooManyRewritings = cc passed in
     let o = c.args.ontology.now in
     let queries = c.args.queries.now in
-    let large : HasLargeLeaf (encoded o) (leaves queries) = c.in_err-gather_queries.ensures.many (ap Err (sym p.2 ∙ same)) in
+    let large : HasLargeLeaf (encoded o) (leaves queries) =
+    c.in_err-gather_queries.ensures.many (ap Err (sym p.2 ∙ same)) in
     more_contained (encoded o) (starts o queries) large.leaf.asks 1048576
     (Contains-append_left (all_leaves queries) (queries_of o.clashes) large.leaf.asks
     (among_all large.leaf queries large.there)) large.reaches
