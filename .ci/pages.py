@@ -76,7 +76,7 @@ def read(page):
             commands[-1].shown.append(line)
         elif inside == "sh" and not NOT_RUN.match(line.strip()):
             faults.append(f"{number}: a command that is not run")
-        elif inside not in ("console", "sh") and line.startswith(("$ ", "tom watch o", "tom watch e")):
+        elif inside not in ("console", "sh") and re.match(r"\$ |tom [a-z]+ (--\S+ )*[a-z0-9]", line):
             faults.append(f"{number}: a command outside of a block that is run")
     return commands, "\n".join(prose), faults
 
