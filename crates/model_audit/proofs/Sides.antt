@@ -17,7 +17,7 @@ use Rattle.dl_syntax.specs.Laws.{Applies}
 use Rattle.list_lemmas.proofs.Elements.{All-from_contains}
 use Rattle.dl_syntax.proofs.FactLaws.{pair_in-Pair, Pair-pair_in, element_in-In, In-element_in}
 use Rattle.model_audit.specs.FiniteModels.{IsMember, HasPartner, Keeps, IsApart, Avoids}
-use Rattle.model_audit.specs.Clashes.{IsOnLeft}
+use Rattle.model_audit.specs.Clashes.{turned_clash, IsOnLeft}
 
 pub same_element : (b : Basic) (f : Fact) (e other : Element) → element_in b f ≡ Some e
     → In b other f → e ≡ other
@@ -132,3 +132,15 @@ module _ (facts part : List Fact) where
     λ avoids. All-from_contains (IsApart facts (clash.Roles r s)) part (λ f there e e' pair inside.
         avoids (f, role_fact s e e', e, e', ((same f).0 there).0, inside, pair, refl)),
   )
+
+-- a clash is avoided where it is avoided with its sides exchanged
+pub avoids_turned : (facts : List Fact) (m : Clash)
+    → Avoids facts (turned_clash m) ↔ Avoids facts m
+avoids_turned facts (clash.Concepts b c) = (
+  λ avoids (f, g, e, one, other, in_b, in_c). avoids (g, f, e, other, one, in_c, in_b),
+  λ avoids (f, g, e, one, other, in_c, in_b). avoids (g, f, e, other, one, in_b, in_c),
+)
+avoids_turned facts (clash.Roles r s) = (
+  λ avoids (f, g, e, e', one, other, in_r, in_s). avoids (g, f, e, e', other, one, in_s, in_r),
+  λ avoids (f, g, e, e', one, other, in_s, in_r). avoids (g, f, e, e', other, one, in_r, in_s),
+)
