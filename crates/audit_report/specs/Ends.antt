@@ -11,7 +11,7 @@ use Rattle.audit_report.specs.Report.{start, auditing}
 -- the models of the input were audited by what the files of these names say
 abbrev pub AuditEnds : FileNames → Ending Refusal → Outside → Outside → Type 0
 AuditEnds names ending before now =
-    FilesStay before now
+    FilesStay ending before.files now.files
     × FilesEnd nothing_more names
     (λ setting. StreamEnds
     (auditing (record { ontology = setting.ontology; queries = setting.queries })) start)
