@@ -88,6 +88,13 @@ Declares old new names =
 abbrev pub with_came : List (List ℕ) → Setting → Setting
 with_came names setting = record setting { ontology = with_individuals names setting.ontology }
 
+-- the plan with further individuals, and a slot for each. The rest of it stays
+abbrev pub plan_with : List (List ℕ) → Plan → Plan
+plan_with names plan = record plan {
+  ontology = with_individuals names plan.ontology;
+  slots = plan.slots + length names;
+}
+
 -- each name is acceptable after those before it
 abbrev pub AreAcceptableTo : Monitored → List (List ℕ) → Type 0
 AreAcceptableTo monitor names =

@@ -10,7 +10,7 @@ ghost use Rattle.monitor_core.specs.Keeping.{AllFit};
 ghost use Rattle.declaring.specs.Declaring.{IsRefusal};
 ghost use Rattle.monitor_core.specs.Widening.{IsWidened, IsWider, CanWidenAll};
 ghost use Rattle.monitor_core.specs.Standing.{Declares, AreAcceptableTo, IsRefusedBy, with_came};
-ghost use Rattle.monitor_core.specs.Standing.{setting_of};
+ghost use Rattle.monitor_core.specs.Standing.{setting_of, plan_with};
 
 use crate::monitor::Monitor;
 use crate::plan::Plan;
@@ -82,14 +82,16 @@ fn refuse_any(names: &[Name]) -> Result<(), DeclareFault>
 
 impl Monitor {
     /// Declares the names as further individuals, in order, or none of them. Nothing was said of
-    /// them before, so what is kept stands for the history with them. It is no snapshot. The
-    /// refusals are, at the first name at fault and there in this order: `Closed` where no name may
-    /// come, `NameTwice`, `TooMany` and `TooLarge`. A refused list changes nothing.
+    /// them before, so what is kept stands for the history with them. It is no snapshot, and the
+    /// rest of what was computed of the ontology and the queries stays. The refusals are, at the
+    /// first name at fault and there in this order: `Closed` where no name may come, `NameTwice`,
+    /// `TooMany` and `TooLarge`. A refused list changes nothing.
     pub fn declare(&mut self, alloc: Global, names: &[Name]) -> Result<(), DeclareFault>
         requires { All IsDeclarable names.now }
         ensures ok { OnOk result (Declares self.old self.new names.now) }
         ensures setting { OnOk result
             (setting_of self.new ≡ with_came names.now (setting_of self.old)) }
+        ensures plan { OnOk result (self.new.plan ≡ plan_with names.now self.old.plan) }
         ensures acceptable { OnOk result (AreAcceptableTo self.old names.now) }
         ensures strangers { self.new.strangers ≡ self.old.strangers }
         ensures declared { OnOk result

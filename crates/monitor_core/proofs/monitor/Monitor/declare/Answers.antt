@@ -1,16 +1,18 @@
 -- A monitor takes further names.
-use Rattle.std.proofs.Common.{◌≡◌, ℕ, ◌<◌, Bool, true, false, List, length, refl, sym, ◌∙◌, ap}
+use Rattle.std.proofs.Common.{◌≡◌, ℕ, ◌+◌, ◌<◌, Bool, true, false, List, length, refl, sym, ◌∙◌, ap}
 use Rattle.std.proofs.Common.{subst, arith, inr}
 use Rattle.std.specs.Prelude.{not, IfErr}
 use Rattle.std.proofs.lemmas.Result.{IfErr-weaker, err_from_is_err_and}
-use Rattle.dl_syntax.specs.Ontology.{Declared}
+use Rattle.dl_syntax.specs.Ontology.{Declared, with_individuals}
 use Rattle.tcq_syntax.specs.Tcq.{Tcq}
 use Rattle.tcq_syntax.specs.Arrivals.{Closed, AreAcceptable}
 use Rattle.declaring.specs.declared.fault.DeclareFault.{DeclareFault}
 use Rattle.declaring.specs.declared.fault.DeclareFault.TheVariants as declare
 use Rattle.declaring.specs.Declaring.{IsRefusal}
+use Rattle.monitor_core.specs.declared.plan.Plan.{Plan}
 use Rattle.monitor_core.specs.Keeping.{Monitored}
 use Rattle.monitor_core.specs.Standing.{Stands, AreAcceptableTo, IsRefusedBy, setting_of, with_came}
+use Rattle.monitor_core.specs.Standing.{plan_with}
 use Rattle.monitor_core.proofs.Widening.{still_monitored, new_setting, declares}
 use Rattle.monitor_core.proofs.monitor.Monitor.declare.Goals as goal
 
@@ -93,6 +95,16 @@ returns-clause-setting c =
     c.declare_wider.new.state c.self.invariant c.if-not-self.false c.requires
     c.in_ok-more.ensures.ok c.in_ok-more.ensures.none ∙ ap (λ (m : Monitored).
     with_came c.args.names.now (setting_of m)) c.self.view_is
+
+pub returns-clause-plan : goal.returns-clause-plan
+returns-clause-plan c =
+    let names = c.args.names.now in
+    let old = c.self.inside.plan in
+    c.in_ok-more.ensures.ok.plan ∙ ap (λ (more : ℕ). let plan : Plan = record old {
+      ontology = with_individuals names old.ontology;
+      slots = old.slots + more;
+    } in plan) c.in_ok-more.ensures.ok.many ∙ ap (λ (m : Monitored). plan_with names m.plan)
+    c.self.view_is
 
 pub returns-clause-acceptable : goal.returns-clause-acceptable
 unfolding setting_of
