@@ -3,7 +3,8 @@ use Rattle.std.proofs.Common.{◌≡◌, ℕ, ◌≤◌, ◌^◌, inl, inr, Opti
 use Rattle.std.proofs.Common.{refl, sym, ◌∙◌, ap, subst, arith, length-append}
 use Rattle.edge_io.specs.Causes.{Rose}
 use Rattle.edge_io.specs.Known.{Takes}
-use Rattle.command_words.specs.Meanings.{Meaning, watch, rewrite, contain, drill, meaning_of_words}
+use Rattle.command_words.specs.Meanings.{Meaning, watch, rewrite, contain, audit, drill}
+use Rattle.command_words.specs.Meanings.{meaning_of_words}
 use Rattle.stream_report.specs.declared.ending.Ending.{Ending}
 use Rattle.stream_report.specs.declared.ending.Ending.TheVariants.{Done, Usage, Refused, ReadFault}
 use Rattle.stream_report.specs.declared.ending.Ending.TheVariants.{WriteFault, Memory, StreamLimit}
@@ -17,7 +18,7 @@ use Rattle.job_sources.specs.Sources.{nothing_more}
 use Rattle.monitor_run.specs.Jobs.{asked_by}
 use Rattle.monitor_run.specs.Laws.{IsDone, IsGood, IsGoodRewriting, IsGoodContainment, IsGoodDrill}
 use Rattle.monitor_run.specs.Laws.{Completeness, RewritingCompleteness, ContainmentCompleteness}
-use Rattle.monitor_run.specs.Laws.{DrillCompleteness}
+use Rattle.monitor_run.specs.Laws.{IsGoodAudit, AuditCompleteness, DrillCompleteness}
 use Rattle.monitor_run.specs.Running.{AskedEnds, Performed, RunEnds}
 use Rattle.monitor_run.proofs.GoodSources.{files_memory, made_memory}
 
@@ -156,6 +157,24 @@ containment_completeness status words before now eb en ran good =
     (contain good.names.ontology good.names.queries good.names.owl) before now good.words_mean
     ran.ending
     (λ is same. for_memory ran.ending is) (containment_done words before now good ran.ending)
+    ran.ends)
+
+audit_done : (words : List (List ℕ)) (before now : Outside) (good : IsGoodAudit words before now)
+    (ending : Ending Refusal)
+    → AskedEnds (asked_by (audit good.names.ontology good.names.queries good.names.owl)) ending
+    before now → IsDone (status_of ending)
+audit_done words before now good ending (stay, inl (fails, untouched)) =
+    for_memory ending (files_memory nothing_more good.names before now good.files ending fails)
+audit_done words before now good ending (stay, inr (setting, opens, ends)) =
+    stream_done _ _ before.ports now.ports good.stream good.left good.short good.no_read_fault
+    good.files.no_write_fault ending ends
+
+pub audit_completeness : AuditCompleteness
+audit_completeness status words before now eb en ran good =
+    subst IsDone (sym ran.status_is)
+    (by_meaning (IsDone (status_of ran.ending)) words
+    (audit good.names.ontology good.names.queries good.names.owl) before now good.words_mean
+    ran.ending (λ is same. for_memory ran.ending is) (audit_done words before now good ran.ending)
     ran.ends)
 
 drill_done : (words : List (List ℕ)) (before now : Outside) (good : IsGoodDrill words before now)

@@ -102,6 +102,10 @@ refused_leaves (meaning.contain o q owl) refusal before now (stay, inl (fails, u
     (stay, untouched.input, untouched.out)
 refused_leaves (meaning.contain o q owl) refusal before now
     (stay, inr (setting, opens, (input, (text, is, written), fault))) = absurd written.is
+refused_leaves (meaning.audit o q owl) refusal before now (stay, inl (fails, untouched)) =
+    (stay, untouched.input, untouched.out)
+refused_leaves (meaning.audit o q owl) refusal before now
+    (stay, inr (setting, opens, (run, fault))) = absurd run.writes
 refused_leaves (meaning.drill seed count) refusal before now (files, inl (fails, untouched)) =
     (files, untouched.input, untouched.out)
 refused_leaves (meaning.drill seed count) refusal before now

@@ -32,6 +32,11 @@ never_usage (meaning.contain o q owl) before now
     (stay, inl (inr (setting, say, refused), untouched)) = refused
 never_usage (meaning.contain o q owl) before now
     (stay, inr (setting, opens, (input, (text, is, written), fault))) = written.is
+never_usage (meaning.audit o q owl) before now (stay, inl (inl unread, untouched)) = unread
+never_usage (meaning.audit o q owl) before now
+    (stay, inl (inr (setting, say, refused), untouched)) = refused
+never_usage (meaning.audit o q owl) before now (stay, inr (setting, opens, (run, fault))) =
+    run.writes
 never_usage (meaning.drill seed count) before now (stay, inl (inl unread, untouched)) = unread
 never_usage (meaning.drill seed count) before now
     (stay, inl (inr (setting, say, refused), untouched)) = refused

@@ -3,7 +3,7 @@ use Rattle.std.specs.Prelude.{ℕ, List}
 use Rattle.command_words.specs.Meanings.{Meaning, Watching}
 use Rattle.command_words.specs.Meanings as meaning
 use Rattle.monitor_run.specs.declared.jobs.Job.{Job}
-use Rattle.monitor_run.specs.declared.jobs.Job.TheVariants.{Watch, Rewrite, Contain}
+use Rattle.monitor_run.specs.declared.jobs.Job.TheVariants.{Watch, Rewrite, Contain, Audit}
 use Rattle.job_sources.specs.FileNames.{FileNames}
 use Rattle.watch_report.specs.declared.options.Options.{Options}
 
@@ -28,4 +28,6 @@ asked_by (meaning.rewrite ontology queries owl) =
     on_files (record { ontology = ontology; queries = queries; owl = owl }) Rewrite
 asked_by (meaning.contain ontology queries owl) =
     on_files (record { ontology = ontology; queries = queries; owl = owl }) Contain
+asked_by (meaning.audit ontology queries owl) =
+    on_files (record { ontology = ontology; queries = queries; owl = owl }) Audit
 asked_by (meaning.drill seed count) = drill seed count

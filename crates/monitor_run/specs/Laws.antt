@@ -4,7 +4,8 @@ use Rattle.std.specs.Prelude.{length}
 use Rattle.edge_io.specs.Causes.{Rose}
 use Rattle.edge_io.specs.Held.{Store}
 use Rattle.edge_io.specs.Lines.{whole_items}
-use Rattle.command_words.specs.Meanings.{Watching, watch, rewrite, contain, drill, meaning_of_words}
+use Rattle.command_words.specs.Meanings.{Watching, watch, rewrite, contain, audit, drill}
+use Rattle.command_words.specs.Meanings.{meaning_of_words}
 use Rattle.monitor_core.specs.Setting.{Setting}
 use Rattle.stream_report.specs.Told.{Part}
 use Rattle.stream_report.specs.Outside.{SinkTold, Outside}
@@ -64,6 +65,17 @@ pub record IsGoodContainment (words : List (List ℕ)) (before now : Outside) : 
   pub words_mean : meaning_of_words words ≡ Some (contain names.ontology names.queries names.owl)
   pub files : HasGoodFiles refuses_no_leaf names before now
 
+-- the words are of an audit by such files, the input is within its limit, and its count did not
+-- rise either
+pub record IsGoodAudit (words : List (List ℕ)) (before now : Outside) : Type 0 where
+  pub names : FileNames
+  pub words_mean : meaning_of_words words ≡ Some (audit names.ontology names.queries names.owl)
+  pub files : HasGoodFiles nothing_more names before now
+  pub stream : List ℕ
+  pub left : before.ports.input.left ≡ Some stream
+  pub short : length stream ≤ 2 ^ 40
+  pub no_read_fault : ¬ Rose before.ports.input.faults now.ports.input.faults
+
 -- the words are of a drill, what it makes reaches no more than may be, and the output had no fault
 pub record IsGoodDrill (words : List (List ℕ)) (before now : Outside) : Type 0 where
   pub seed : ℕ
@@ -95,6 +107,13 @@ ContainmentCompleteness =
     →
     Ran status words before now err_before err_now → IsGoodContainment words before now
     → IsDone status
+
+-- an audit
+abbrev pub AuditCompleteness : Type 0
+AuditCompleteness =
+    (status : Status) (words : List (List ℕ)) (before now : Outside) (err_before err_now : SinkTold)
+    →
+    Ran status words before now err_before err_now → IsGoodAudit words before now → IsDone status
 
 -- and a drill
 abbrev pub DrillCompleteness : Type 0

@@ -11,9 +11,10 @@ use Rattle.job_sources.specs.FileNames.{FileNames}
 use Rattle.rewriting_text.specs.Ends.{RewriteEnds}
 use Rattle.containment_text.specs.Ends.{ContainEnds}
 use Rattle.watch_report.specs.Ends.{WatchEnds, DrillEnds}
+use Rattle.audit_report.specs.Ends.{AuditEnds}
 use Rattle.monitor_run.specs.declared.status.Status.{Status}
 use Rattle.monitor_run.specs.declared.jobs.Job.{Job}
-use Rattle.monitor_run.specs.declared.jobs.Job.TheVariants.{Watch, Rewrite, Contain}
+use Rattle.monitor_run.specs.declared.jobs.Job.TheVariants.{Watch, Rewrite, Contain, Audit}
 use Rattle.monitor_run.specs.Ends.{status_of, line_of}
 use Rattle.monitor_run.specs.Jobs.{Asked, on_files, drill, asked_by}
 
@@ -22,6 +23,7 @@ abbrev pub JobEnds : Job → FileNames → Ending Refusal → Outside → Outsid
 JobEnds (Watch options) names ending before now = WatchEnds options names ending before now
 JobEnds Rewrite names ending before now = RewriteEnds names ending before now
 JobEnds Contain names ending before now = ContainEnds names ending before now
+JobEnds Audit names ending before now = AuditEnds names ending before now
 
 -- how what is asked for ended. A drill touches no file
 abbrev pub AskedEnds : Asked → Ending Refusal → Outside → Outside → Type 0

@@ -12,6 +12,7 @@ ghost use Rattle.monitor_run.specs.Running.{JobEnds, AskedEnds, RunEnds, Says, R
 use crate::error_line::error_line;
 use crate::jobs::{Job, options_of};
 use crate::status::Status;
+use audit_report::audit_files;
 use command_words::{Request, WordsFault, read_words};
 use containment_text::contain_files;
 use edge_io::{Files, Sink, Source, write_all};
@@ -38,6 +39,7 @@ fn do_job<F: Files, S: Source, K: Sink>(
         Job::Watch(options) => watch_files(alloc, names, options, files, input, out),
         Job::Rewrite => rewrite_files(alloc, names, files, out),
         Job::Contain => contain_files(alloc, names, files, out),
+        Job::Audit => audit_files(alloc, names, files, input, out),
     }
 }
 
@@ -70,14 +72,8 @@ fn perform<F: Files, S: Source, K: Sink>(
     match request {
         Request::Watch(asked) => {
             let names = named(asked.ontology, asked.queries, asked.owl);
-            do_job(
-                alloc,
-                names,
-                Job::Watch(options_of(asked)),
-                files,
-                input,
-                out,
-            )
+            let job = Job::Watch(options_of(asked));
+            do_job(alloc, names, job, files, input, out)
         }
         Request::Rewrite {
             ontology,
@@ -94,6 +90,14 @@ fn perform<F: Files, S: Source, K: Sink>(
         } => {
             let names = named(ontology, queries, owl);
             do_job(alloc, names, Job::Contain, files, input, out)
+        }
+        Request::Audit {
+            ontology,
+            queries,
+            owl,
+        } => {
+            let names = named(ontology, queries, owl);
+            do_job(alloc, names, Job::Audit, files, input, out)
         }
         Request::Drill { seed, count } => drill(alloc, seed, count, out),
     }
@@ -155,9 +159,11 @@ fn say<E: Sink>(ending: Ending<Refusal>, err: &mut E)
 /// Runs the command that the words name: `watch ONTOLOGY QUERIES` reads the two files, watches
 /// `input` to its end and writes the report to `out`; `rewrite ONTOLOGY QUERIES` reads the two
 /// files and writes the rewritings of all leaves to `out`; `contain ONTOLOGY QUERIES` reads the two
-/// files and writes to `out` which queries are contained in which others; `drill SEED COUNT` makes
-/// an ontology, queries and a stream, watches it, and writes to `out` what its last snapshot tells
-/// and the end of the report. What a status means is told on `err`.
+/// files and writes to `out` which queries are contained in which others; `audit ONTOLOGY QUERIES`
+/// reads the two files, audits the models of `input` to its end and writes to `out` what is found
+/// of each; `drill SEED COUNT` makes an ontology, queries and a stream, watches it, and writes to
+/// `out` what its last snapshot tells and the end of the report. What a status means is told on
+/// `err`.
 pub fn run<F: Files, S: Source, K: Sink, E: Sink>(
     alloc: Global,
     words: &[String],

@@ -16,6 +16,8 @@ pub enum Job {
     Rewrite,
     /// Writes which queries are contained in which others.
     Contain,
+    /// Audits the models of the input.
+    Audit,
 }
 
 /// The options that the words of a watch mean.

@@ -2,6 +2,7 @@
 ghost use Rattle.monitor_run.specs.Laws.{Completeness, RewritingCompleteness, DrillCompleteness};
 ghost use Rattle.monitor_run.specs.Laws.{DrillLeaves, RewritingLeaves, UsageLeaves, RefusalLeaves};
 ghost use Rattle.monitor_run.specs.Laws.{LimitComesExactly};
+ghost use Rattle.monitor_run.specs.Laws.{AuditCompleteness};
 ghost use Rattle.monitor_run.specs.Laws.{ContainmentCompleteness, ContainmentLeaves};
 
 /// Where the words name files without a fault, the stream is within its limit and no count of
@@ -21,6 +22,13 @@ pub fn rewriting_completeness()
 /// done with the whole text, or found no memory.
 pub fn containment_completeness()
     ensures { ContainmentCompleteness }
+{}
+
+/// Where the words name files without a fault, which reach no more than they may, the input is
+/// within its limit and no count of faults rose, an audit is done with the whole report, or found
+/// no memory.
+pub fn audit_completeness()
+    ensures { AuditCompleteness }
 {}
 
 /// A test of containment leaves the input as it was.
