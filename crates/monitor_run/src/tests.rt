@@ -59,19 +59,19 @@ fn files_of(alloc: Global, ontology: &[u8], queries: &[u8]) -> Result<MemFiles, 
     Ok(MemFiles::new(files, Vec::new(alloc)))
 }
 
-/// These words, owned.
-fn words_of<const N: usize>(alloc: Global, words: [&str; N]) -> Result<Vec<String>, Fail> {
-    let mut owned = Vec::new(alloc);
-    for word in words {
-        owned.push(String::from_str(alloc, word)?)?;
+/// The words of a line, with a blank between each two.
+fn words_of(alloc: Global, line: &str) -> Result<Vec<String>, Fail> {
+    let mut words = Vec::new(alloc);
+    for word in line.split(' ') {
+        words.push(String::from_str(alloc, word)?)?;
     }
-    Ok(owned)
+    Ok(words)
 }
 
 /// Runs a command with files, and a stream that comes through ports.
-fn ran<const N: usize>(
+fn ran(
     alloc: Global,
-    words: [&str; N],
+    line: &str,
     ontology: &[u8],
     queries: &[u8],
     ports: Ports<'_>,
@@ -80,7 +80,7 @@ fn ran<const N: usize>(
     requires write { 1 ≤ ports.write_step }
 {
     let mut files = files_of(alloc, ontology, queries)?;
-    let words = words_of(alloc, words)?;
+    let words = words_of(alloc, line)?;
     let reads = ports.reads.to_vec(alloc)?;
     let mut input = MemSource::new(ports.stream.to_vec(alloc)?, ports.read_step, reads);
     let writes = ports.writes.to_vec(alloc)?;
@@ -103,7 +103,7 @@ fn lines_come_in_any_pieces(rt: HostRuntime) -> Result<(), Fail> {
     for count in 1..42 {
         let mut ports = whole(stream);
         ports.read_step = count;
-        let outcome = ran(alloc, ["watch", "O", "Q"], ONTOLOGY, QUERIES, ports)?;
+        let outcome = ran(alloc, "watch O Q", ONTOLOGY, QUERIES, ports)?;
         assert_eq!(rt; outcome.status, Status::Done);
         assert_eq!(rt; outcome.report.as_slice(), wanted);
     }
@@ -116,13 +116,13 @@ fn faults_leave_what_was_told(rt: HostRuntime) -> Result<(), Fail> {
     let mut ports = whole(b"snap Failed(s1)\n");
     ports.write_step = 4;
     ports.writes = &[3];
-    let outcome = ran(alloc, ["watch", "O", "Q"], ONTOLOGY, QUERIES, ports)?;
+    let outcome = ran(alloc, "watch O Q", ONTOLOGY, QUERIES, ports)?;
     assert_eq!(rt; outcome.status, Status::WriteFault);
     assert_eq!(rt; outcome.report.as_slice(), b"line 1 a".as_slice());
     let mut ports = whole(b"snap Failed(s1)\nsnap\n");
     ports.read_step = 16;
     ports.reads = &[2];
-    let outcome = ran(alloc, ["watch", "O", "Q"], ONTOLOGY, QUERIES, ports)?;
+    let outcome = ran(alloc, "watch O Q", ONTOLOGY, QUERIES, ports)?;
     assert_eq!(rt; outcome.status, Status::ReadFault);
     assert_eq!(rt;
         outcome.report.as_slice(),

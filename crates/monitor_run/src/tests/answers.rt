@@ -37,7 +37,7 @@ fn streams_are_answered(rt: HostRuntime) -> Result<(), Fail> {
         ),
     ];
     for (queries, stream, wanted) in table {
-        let outcome = ran(alloc, ["watch", "O", "Q"], ONTOLOGY, queries, whole(stream))?;
+        let outcome = ran(alloc, "watch O Q", ONTOLOGY, queries, whole(stream))?;
         assert_eq!(rt; outcome.status, Status::Done);
         assert_eq!(rt; outcome.report.as_slice(), wanted);
     }

@@ -24,7 +24,7 @@ fn each_pair_is_told(rt: HostRuntime) -> Result<(), Fail> {
         ),
     ];
     for (queries, wanted) in table {
-        let outcome = ran(alloc, ["contain", "O", "Q"], ONTOLOGY, queries, whole(b""))?;
+        let outcome = ran(alloc, "contain O Q", ONTOLOGY, queries, whole(b""))?;
         assert_eq!(rt; outcome.status, Status::Done);
         assert_eq!(rt; outcome.report.as_slice(), wanted);
     }
@@ -36,7 +36,7 @@ fn the_first_query_that_is_no_leaf_is_refused(rt: HostRuntime) -> Result<(), Fai
     let alloc = rt.alloc();
     let queries: &[u8] =
         b"query a (?x) = [Server(?x)] ; query b (?x ?y) = [Failed(?x)] ; query c () = next [Failed(s1)] ;";
-    let outcome = ran(alloc, ["contain", "O", "Q"], ONTOLOGY, queries, whole(b""))?;
+    let outcome = ran(alloc, "contain O Q", ONTOLOGY, queries, whole(b""))?;
     assert_eq!(rt; outcome.status, Status::BadQueries);
     assert_eq!(rt;
         outcome.said.as_slice(),

@@ -11,7 +11,7 @@ const QUERIES: &[u8] = b"query t (?x) = [runs(?x,?y)] ;";
 
 #[test]
 fn a_document_is_watched(rt: HostRuntime) -> Result<(), Fail> {
-    let words = ["watch", "O", "Q", "--owl"];
+    let words = "watch O Q --owl";
     let stream = whole(b"snap Server(s1)\n");
     let outcome = ran(rt.alloc(), words, DOCUMENT, QUERIES, stream)?;
     assert_eq!(rt; outcome.status, Status::Done);
@@ -24,7 +24,7 @@ fn a_document_is_watched(rt: HostRuntime) -> Result<(), Fail> {
 
 #[test]
 fn a_word_that_is_not_taken_is_told(rt: HostRuntime) -> Result<(), Fail> {
-    let words = ["rewrite", "--owl", "O", "Q"];
+    let words = "rewrite --owl O Q";
     let document = b"Ontology(\nTransitiveObjectProperty(<r>))";
     let outcome = ran(rt.alloc(), words, document, QUERIES, whole(b""))?;
     assert_eq!(rt; outcome.status, Status::BadOntology);

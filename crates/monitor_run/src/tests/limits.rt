@@ -1,4 +1,6 @@
 //! Sources that lead to very many queries, and a chase that can't be made level by level.
+ghost use Rattle.std.specs.Prelude.{◌<◌};
+
 use super::{ran, whole};
 use crate::Status;
 use std::alloc::Global;
@@ -51,7 +53,7 @@ fn partners_by_each_role(alloc: Global) -> Result<Vec<u8>, Fail> {
 fn too_many_rewritings_are_refused(rt: HostRuntime) -> Result<(), Fail> {
     let alloc = rt.alloc();
     let ontology = forty_below(alloc)?;
-    let outcome = ran(alloc, ["rewrite", "O", "Q"], &ontology, ATOMS, whole(b""))?;
+    let outcome = ran(alloc, "rewrite O Q", &ontology, ATOMS, whole(b""))?;
     assert_eq!(rt; outcome.status, Status::BadOntology);
     assert_eq!(rt;
         outcome.said.as_slice(),
@@ -65,13 +67,7 @@ fn too_many_rewritings_are_refused(rt: HostRuntime) -> Result<(), Fail> {
 fn wide_chases_are_answered(rt: HostRuntime) -> Result<(), Fail> {
     let alloc = rt.alloc();
     let ontology = partners_by_each_role(alloc)?;
-    let outcome = ran(
-        alloc,
-        ["watch", "O", "Q"],
-        &ontology,
-        PATH,
-        whole(b"snap A(a)\n"),
-    )?;
+    let outcome = ran(alloc, "watch O Q", &ontology, PATH, whole(b"snap A(a)\n"))?;
     assert_eq!(rt; outcome.status, Status::Done);
     assert_eq!(rt;
         outcome.report.as_slice(),

@@ -8,44 +8,38 @@ fn sources_are_refused(rt: HostRuntime) -> Result<(), Fail> {
     let alloc = rt.alloc();
     let wrong: &[u8] = b"query f (?x) = [runs(?x)] ;";
     let twice: &[u8] = b"query f (?x) = [Failed(?x)] ;\nquery f () = true ;\n";
-    let table: [([&str; 3], &[u8], &[u8], Status, &[u8]); 6] = [
+    let table: [(&str, &[u8], &[u8], Status, &[u8]); 6] = [
+        ("watch O ", ONTOLOGY, b"", Status::Usage, b"tom: usage\n"),
         (
-            ["watch", "O", ""],
-            ONTOLOGY,
-            b"",
-            Status::Usage,
-            b"tom: usage\n",
-        ),
-        (
-            ["watch", "P", "Q"],
+            "watch P Q",
             ONTOLOGY,
             b"",
             Status::ReadFault,
             b"tom: read fault\n",
         ),
         (
-            ["watch", "O", "P"],
+            "watch O P",
             ONTOLOGY,
             b"",
             Status::ReadFault,
             b"tom: read fault\n",
         ),
         (
-            ["watch", "O", "P"],
+            "watch O P",
             b"concept A\nconcept A\n",
             b"",
             Status::BadOntology,
             b"tom: ontology line 2: name-twice\n",
         ),
         (
-            ["watch", "O", "Q"],
+            "watch O Q",
             ONTOLOGY,
             wrong,
             Status::BadQueries,
             b"tom: queries line 1: wrong-kind\n",
         ),
         (
-            ["rewrite", "O", "Q"],
+            "rewrite O Q",
             ONTOLOGY,
             twice,
             Status::BadQueries,

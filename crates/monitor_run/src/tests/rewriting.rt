@@ -19,7 +19,7 @@ fn each_leaf_is_told(rt: HostRuntime) -> Result<(), Fail> {
         ),
     ];
     for (ontology, queries, wanted) in table {
-        let outcome = ran(alloc, ["rewrite", "O", "Q"], ontology, queries, whole(b""))?;
+        let outcome = ran(alloc, "rewrite O Q", ontology, queries, whole(b""))?;
         assert_eq!(rt; outcome.status, Status::Done);
         assert_eq!(rt; outcome.report.as_slice(), wanted);
     }
