@@ -8,3 +8,4 @@ pub mod Advancing
 pub mod Widening
 pub mod Standing
 pub mod Exchanging
+pub mod Restoring
