@@ -1,5 +1,5 @@
 -- Names that may come.
-use Rattle.std.proofs.Common.{◌≡◌, ℕ, false, List, [], refl}
+use Rattle.std.proofs.Common.{ℕ, false, List, [], refl}
 use Rattle.std.specs.Prelude.{◌↔◌}
 use Rattle.dl_syntax.specs.Ontology.{Declared}
 use Rattle.tcq_syntax.specs.Tcq.{Tcq}

@@ -1,9 +1,9 @@
 -- The two first lines.
-use Rattle.std.proofs.Common.{◌≡◌, ◌≢◌, ℕ, suc, ◌+◌, ◌<◌, ◌≤◌, ◌/◌, ◌%◌, Bool, true, false, not, ◌&&◌}
-use Rattle.std.proofs.Common.{nat_eq, List, [], ◌∷◌, ◌++◌, length, drop, refl, sym, ◌∙◌, ap, subst}
-use Rattle.std.proofs.Common.{arith, inl, inr, append_assoc}
-use Rattle.std.specs.Prelude.{◌⊎◌, Option, Some, None, codes, flat_map, slice_index, Ok}
-use Rattle.std.specs.List.{All, list_all}
+use Rattle.std.proofs.Common.{◌≡◌, ◌≢◌, ℕ, suc, ◌<◌, ◌/◌, ◌%◌, Bool, true, false, not, ◌&&◌}
+use Rattle.std.proofs.Common.{nat_eq, List, [], ◌∷◌, ◌++◌, drop, refl, sym, ◌∙◌, ap, subst}
+use Rattle.std.proofs.Common.{arith, inl, inr}
+use Rattle.std.specs.Prelude.{Option, Some, None, codes, slice_index, Ok}
+use Rattle.std.specs.List.{list_all}
 use Rattle.std.proofs.lemmas.Bool.Decides.{eqb_tells}
 use Rattle.std.proofs.lemmas.List.Elements.{All-nil, All-cons, All-append, All-get_or}
 use Rattle.hex.specs.Hex.{IsBytes, encode_lower, encode_with, lower_digits, decode_of}
@@ -26,7 +26,8 @@ lacks_tested [] tested = All-nil (λ b. b ≢ 10)
 lacks_tested (x ∷ text) tested = elim (eqb_tells x 10) [
   | inl same ↦
       let none : false ≡ true =
-      subst (λ (b : Bool). (not b && list_all (λ b. not (nat_eq b 10)) text) ≡ true) same.0 tested in
+      subst (λ (b : Bool). (not b && list_all (λ b. not (nat_eq b 10)) text) ≡ true) same.0
+      tested in
       absurd (cc)
   | inr other ↦ All-cons (λ b. b ≢ 10) x text other.1
       (lacks_tested text (subst (λ (b : Bool). (not b && list_all (λ b. not (nat_eq b 10)) text)

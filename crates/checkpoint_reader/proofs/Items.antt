@@ -1,12 +1,12 @@
 -- Rows of items, each behind a space.
-use Rattle.std.proofs.Common.{◌≡◌, ◌≢◌, ℕ, ◌+◌, ◌<◌, ◌^◌, List, [], ◌∷◌, ◌++◌, refl, sym, ◌∙◌, ap, subst}
+use Rattle.std.proofs.Common.{◌≡◌, ◌≢◌, ℕ, ◌<◌, ◌^◌, List, [], ◌∷◌, ◌++◌, refl, sym, ◌∙◌, ap, subst}
 use Rattle.std.proofs.Common.{arith, append_assoc, decimal, inl, inr, false, length}
 use Rattle.std.specs.Prelude.{◌==◌}
 use Rattle.std.proofs.lemmas.Bool.{false≢true}
 use Rattle.std.specs.Prelude.{flat_map, ◌⊎◌}
 use Rattle.std.specs.List.{All}
 use Rattle.std.proofs.lemmas.Fmt.{decimal_injective}
-use Rattle.std.proofs.lemmas.List.Elements.{All-nil, All-cons, All-head, All-tail, All-append}
+use Rattle.std.proofs.lemmas.List.Elements.{All-cons, All-head, All-tail, All-append}
 use Rattle.checkpoint_text.specs.declared.checkpoint.Stretch.{Stretch}
 use Rattle.checkpoint_text.specs.Text.{Text, stretch_text}
 use Rattle.checkpoint_reader.specs.Lines.{EndsWord, Lacks, set_text, AreSmall, HasNoSet}
@@ -59,8 +59,12 @@ module _ (X : Type 0) (text : X → Text) (Fits : X → Type 0)
       → (all : List X) → All Fits all → whole ≡ flat_map text all → ⊥
   no_row whole front rest cut fit ends left none all fits is =
       elim ends [
-        | inl first ↦ go (all, fits, sym (ap (λ (xs : List X). flat_map text xs ++ rest) first)
-            ∙ sym cut ∙ is)
+        | inl first ↦ go (
+          all,
+          fits,
+          sym (ap (λ (xs : List X). flat_map text xs ++ rest) first)
+              ∙ sym cut ∙ is,
+        )
         | inr stops ↦ go (rest_is front rest all fit fits stops (sym cut ∙ is))
       ]
     where
@@ -105,13 +109,15 @@ one_set a b x y fits small ends stops same =
     (decimal_no_space b (small_set b small)) ends stops (cc) in
     (decimal_injective a b (small_set a fits) (small_set b small) parts.0, parts.1)
 
-pub no_sets : (whole : Text) (front : List ℕ) (rest : Text) → whole ≡ flat_map set_text front ++ rest
+pub no_sets : (whole : Text) (front : List ℕ) (rest : Text)
+    → whole ≡ flat_map set_text front ++ rest
     → All (λ set. set < 256) front → (front ≡ []) ⊎ EndsWord rest → (rest ≡ [] → ⊥)
     → HasNoSet rest
     → IsNoSets whole
 no_sets whole front rest cut fit ends left none =
     no_row ℕ set_text (λ set. set < 256) (λ item more. refl)
-    (λ item more. nothing_there 32 (decimal item ++ more)) one_set whole front rest cut fit ends left
+    (λ item more. nothing_there 32 (decimal item ++ more)) one_set whole front rest cut fit ends
+    left
     (λ item more fits stops is. none item more fits stops is)
 
 -- ---- stretches
@@ -128,8 +134,7 @@ one_stretch a b x y fits small ends stops same =
     let parts = pair_parts (decimal a.count) (decimal a.list) b.count b.list
     (decimal_no_colon a.count fits.0) small.0 words.0 in
     let counts : a.count ≡ b.count = decimal_injective a.count b.count fits.0 small.0 parts.0 in
-    let lists : a.list ≡ b.list = decimal_injective a.list b.list fits.1 small.1 parts.1 in
-    (
+    let lists : a.list ≡ b.list = decimal_injective a.list b.list fits.1 small.1 parts.1 in (
       ap (λ (n : ℕ). let s : Stretch = record { count = n; list = a.list } in s) counts
           ∙ ap (λ (n : ℕ). let s : Stretch = record { count = b.count; list = n } in s) lists,
       words.1,

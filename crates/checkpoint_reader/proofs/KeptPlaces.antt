@@ -1,10 +1,10 @@
 -- The places of kept nodes.
-use Rattle.std.proofs.Common.{◌≡◌, ℕ, ◌+◌, ◌<◌, ◌≤◌, List, [], ◌∷◌, ◌++◌, length, refl, sym, ◌∙◌, ap}
+use Rattle.std.proofs.Common.{◌≡◌, ℕ, ◌+◌, ◌<◌, ◌≤◌, List, [], ◌∷◌, ◌++◌, length, ◌∙◌, ap}
 use Rattle.std.proofs.Common.{subst, arith, inl, inr}
-use Rattle.std.specs.Prelude.{◌↔◌, ◌⊎◌, Some, slice_get}
-use Rattle.std.specs.List.{All, AllPairs, Contains}
+use Rattle.std.specs.Prelude.{◌↔◌, Some, slice_get}
+use Rattle.std.specs.List.{AllPairs, Contains}
 use Rattle.std.proofs.lemmas.Bool.{cases_lt}
-use Rattle.std.proofs.lemmas.List.Elements.{All-contains, All-nil, All-push, Contains-append_left}
+use Rattle.std.proofs.lemmas.List.Elements.{Contains-append_left}
 use Rattle.std.proofs.lemmas.List.Elements.{Contains-push, Contains-push_cases}
 use Rattle.std.proofs.lemmas.Option.{slice_get_within, slice_get-get_or}
 use Rattle.list_lemmas.proofs.Elements.{AllPairs-nil, AllPairs-push, Contains-none}
@@ -46,8 +46,10 @@ pub record KeptTo (nodes : List Node) (count : ℕ) (places : List ℕ) : Type 0
 pub none_kept : (nodes : List Node) → KeptTo nodes 0 []
 none_kept nodes = record {
   rising = AllPairs-nil (λ place later. place < later);
-  exact = λ place. (λ there. absurd (Contains-none place there),
-      λ kept. absurd (omega (arith, kept.0)));
+  exact = λ place. (
+    λ there. absurd (Contains-none place there),
+    λ kept. absurd (omega (arith, kept.0)),
+  );
 }
 
 pub one_kept : (nodes : List Node) (count : ℕ) (places : List ℕ) → KeptTo nodes count places
@@ -100,8 +102,10 @@ pub no_places : (accepted tuples : ℕ) (query : Tcq) → ((0 < accepted) × (0 
     → ArePlaces accepted tuples query []
 no_places accepted tuples query missing = record {
   rising = AllPairs-nil (λ place later. place < later);
-  exact = λ place. (λ there. absurd (Contains-none place there),
-      λ all. absurd (missing (all.0, all.1)));
+  exact = λ place. (
+    λ there. absurd (Contains-none place there),
+    λ all. absurd (missing (all.0, all.1)),
+  );
 }
 
 pub all_places : (accepted tuples : ℕ) (query : Tcq) (places : List ℕ) → 0 < accepted → 0 < tuples
@@ -110,6 +114,8 @@ pub all_places : (accepted tuples : ℕ) (query : Tcq) (places : List ℕ) → 0
     → ArePlaces accepted tuples query places
 all_places accepted tuples query places some few kept = record {
   rising = kept.0;
-  exact = λ place. (λ there. (some, few, (kept.1 place).0 there),
-      λ all. (kept.1 place).1 all.2);
+  exact = λ place. (
+    λ there. (some, few, (kept.1 place).0 there),
+    λ all. (kept.1 place).1 all.2,
+  );
 }

@@ -1,15 +1,14 @@
 -- What is appended to lists of names and of numbers.
-use Rattle.std.proofs.Common.{◌≡◌, ℕ, suc, ◌+◌, ◌<◌, ◌≤◌, List, [], ◌∷◌, ◌++◌, length, take, false}
+use Rattle.std.proofs.Common.{◌≡◌, ℕ, suc, ◌+◌, ◌<◌, List, [], ◌∷◌, ◌++◌, length, take, false}
 use Rattle.std.proofs.Common.{refl, sym, ◌∙◌, ap, subst, arith, inl, inr}
 use Rattle.std.specs.Prelude.{Some, None, max, slice_get}
-use Rattle.std.specs.List.{All, Contains}
 use Rattle.std.proofs.lemmas.Bool.{cases_lt}
 use Rattle.std.proofs.lemmas.List.{take-append-le, length-append, take_at, get_or_append_left}
 use Rattle.std.proofs.lemmas.Option.{get_or_from_slice_get, slice_get_within, slice_get-get_or}
 use Rattle.std.proofs.lemmas.List.{get_or-append-add}
 use Rattle.dl_syntax.specs.Ontology.{Declared, with_individuals}
 use Rattle.tcq_syntax.specs.Tcq.{Tcq}
-use Rattle.tcq_syntax.specs.Arrivals.{AreAcceptable, IsFaultAt, fault_of_name}
+use Rattle.tcq_syntax.specs.Arrivals.{AreAcceptable, fault_of_name}
 use Rattle.checkpoint_text.specs.Suspended.{AreInOrder, seen_behind}
 
 -- one more name

@@ -1,15 +1,16 @@
 -- What the lines before a stage have said.
-use Rattle.std.proofs.Common.{◌≡◌, ℕ, zero, suc, ◌+◌, ◌<◌, ◌≤◌, ◌^◌, List, [], ◌∷◌, ◌++◌, length, map}
+use Rattle.std.proofs.Common.{◌≡◌, ℕ, zero, suc, ◌+◌, ◌<◌, ◌≤◌, ◌^◌, List, [], ◌∷◌, ◌++◌}
+use Rattle.std.proofs.Common.{length, map}
 use Rattle.std.proofs.Common.{take, refl, sym, ◌∙◌, ap, subst, arith, inl, inr, append_assoc}
-use Rattle.std.proofs.Common.{append-nil, true, false, Bool, nat_eq}
-use Rattle.std.specs.Prelude.{◌⊎◌, ◌≢◌, Option, Some, None, flat_map, slice_get}
+use Rattle.std.proofs.Common.{append-nil, false, Bool}
+use Rattle.std.specs.Prelude.{◌⊎◌, ◌≢◌, Option, Some, None, flat_map}
 use Rattle.std.specs.List.{All, AllPairs, AllZip, Contains}
 use Rattle.std.proofs.lemmas.Bool.Decides.{eqb_tells}
 use Rattle.std.proofs.lemmas.List.{length-append, map-append, flat_map_more}
 use Rattle.std.proofs.lemmas.List.Concat.{flat_map-append}
 use Rattle.std.proofs.lemmas.List.Elements.{All-nil, All-push}
 use Rattle.list_lemmas.proofs.Elements.{AllPairs-nil, AllPairs-push}
-use Rattle.list_lemmas.proofs.Zipped.{AllZip-added, AllZip-length, AllZip-weaker}
+use Rattle.list_lemmas.proofs.Zipped.{AllZip-added, AllZip-weaker}
 use Rattle.tcq_syntax.specs.Tcq.{Tcq}
 use Rattle.checkpoint_text.specs.declared.checkpoint.Stretch.{Stretch}
 use Rattle.checkpoint_text.specs.Suspended.{Suspended, NodeLists, Frame, AreNames, IsListOf}
@@ -30,7 +31,7 @@ use Rattle.tcq_syntax.specs.Arrivals.{AreAcceptable, fault_of_name}
 use Rattle.std.specs.Prelude.{if◌then◌else◌}
 use Rattle.std.proofs.lemmas.List.{take_more, take_all}
 use Rattle.std.proofs.lemmas.Option.{slice_get_within, get_or_from_slice_get}
-use Rattle.checkpoint_reader.proofs.Orders.{acceptable_push, seen-append, order-append}
+use Rattle.checkpoint_reader.proofs.Orders.{acceptable_push, order-append}
 
 module _ (frame : Frame) (sum : List ℕ) where
   -- ---- the lines so far
@@ -80,7 +81,8 @@ module _ (frame : Frame) (sum : List ℕ) where
   pub record AreTold (c : Suspended) (nodes : List NodeLists) (places : List ℕ) : Type 0 where
     pub query : Tcq
     pub next : IsNextQuery frame c query
-    pub are : ArePlaces c.accepted (rows c.names query) query (map (λ node. node.place) nodes ++ places)
+    pub are : ArePlaces c.accepted (rows c.names query) query
+        (map (λ node. node.place) nodes ++ places)
     pub each : All (λ node. AreStretches c.lists query (rows c.names query) node.place
         node.stretches) nodes
     pub order : AreInOrder 0 (numbers_so_far c nodes)
@@ -127,9 +129,13 @@ module _ (frame : Frame) (sum : List ℕ) where
       → (lines : List Text)
       → lines ≡ head (Some []) n ++ names_line (length came + left) ∷ map name_line came
       → Says (behind_names left came (begun (Some []) n)) lines
-  names_say zero came n small names lines is =
-      (record { counted = small; names_are = names }, refl, refl, is
-      ∙ ap (λ (k : ℕ). head (Some []) n ++ names_line k ∷ map name_line came) (omega arith))
+  names_say zero came n small names lines is = (
+    record { counted = small; names_are = names },
+    refl,
+    refl,
+    is
+        ∙ ap (λ (k : ℕ). head (Some []) n ++ names_line k ∷ map name_line came) (omega arith),
+  )
   names_say (suc left) came n small names lines is = (n, small, refl, names, is)
 
   names_push : (came : List Text) (text : Text) → AreNames frame (Some came) → IsDeclarable text
@@ -184,7 +190,8 @@ module _ (frame : Frame) (sum : List ℕ) where
     named = named;
     each = subst (λ (lists : List (List ℕ)). All (IsListOf frame.queries) lists) (sym none)
         (All-nil (IsListOf frame.queries));
-    distinct = subst (λ (lists : List (List ℕ)). AllPairs (λ one other. one ≢ other) lists) (sym none)
+    distinct = subst (λ (lists : List (List ℕ)). AllPairs (λ one other. one ≢ other) lists)
+        (sym none)
         (AllPairs-nil (λ one other. one ≢ other));
   }
 
@@ -217,12 +224,15 @@ module _ (frame : Frame) (sum : List ℕ) where
         kept = subst (λ (queries : List Tcq). AllZip (AreKeptIn c.names c.accepted c.lists) queries
             (c.queries ++ nodes ∷ [])) (sym (ap (λ (k : ℕ). take k frame.queries) long ∙ front))
             (AllZip-added (AreKeptIn c.names c.accepted c.lists)
-            (take (length c.queries) frame.queries) c.queries told.query nodes are.kept
-            (subst (λ (places : List ℕ). ArePlaces c.accepted (rows c.names told.query) told.query
-            places) (append-nil (map (λ node. node.place) nodes)) told.are, told.each));
+            (take (length c.queries) frame.queries) c.queries told.query nodes are.kept (
+              subst (λ (places : List ℕ). ArePlaces c.accepted (rows c.names told.query) told.query
+                  places) (append-nil (map (λ node. node.place) nodes)) told.are,
+              told.each,
+            ));
         order = subst (AreInOrder 0)
             (sym (flat_map-append numbers_of_nodes c.queries (nodes ∷ [])
-            ∙ ap (λ (xs : List ℕ). numbers_of c.queries ++ xs) (append-nil (numbers_of_nodes nodes))))
+            ∙ ap (λ (xs : List ℕ). numbers_of c.queries ++ xs)
+            (append-nil (numbers_of_nodes nodes))))
             told.order;
       }
 
@@ -235,7 +245,8 @@ module _ (frame : Frame) (sum : List ℕ) where
       → lines ≡ asked c ++ query_line (length nodes + length places) ∷ map node_line nodes
       → Says (behind_nodes frame places nodes c) lines
   nodes_say [] nodes c are told lines is =
-      queries_say (record c { queries = c.queries ++ nodes ∷ [] }) (asked_push c nodes are told) lines
+      queries_say (record c { queries = c.queries ++ nodes ∷ [] }) (asked_push c nodes are told)
+      lines
       (is ∙ ap (λ (k : ℕ). asked c ++ query_line k ∷ map node_line nodes) (omega arith)
       ∙ asked_lines c nodes)
   nodes_say (place ∷ places) nodes c are told lines is = (are, told, is)
@@ -250,7 +261,8 @@ module _ (frame : Frame) (sum : List ℕ) where
       record {
         query = told.query;
         next = told.next;
-        are = subst (λ (all : List ℕ). ArePlaces c.accepted (rows c.names told.query) told.query all)
+        are = subst (λ (all : List ℕ).
+            ArePlaces c.accepted (rows c.names told.query) told.query all)
             (sym (append_assoc (map (λ n. n.place) nodes) (place ∷ []) places)
             ∙ ap (λ (front : List ℕ). front ++ places)
             (sym (map-append (λ n. n.place) nodes (node ∷ [])))) told.are;
@@ -261,7 +273,8 @@ module _ (frame : Frame) (sum : List ℕ) where
         order = subst (AreInOrder 0)
             (append_assoc (numbers_of c.queries) (numbers_of_nodes nodes) (numbers_in stretches)
             ∙ ap (λ (xs : List ℕ). numbers_of c.queries ++ xs)
-            (ap (λ (xs : List ℕ). numbers_of_nodes nodes ++ xs) (sym (append-nil (numbers_in stretches)))
+            (ap (λ (xs : List ℕ). numbers_of_nodes nodes ++ xs)
+            (sym (append-nil (numbers_in stretches)))
             ∙ sym (flat_map-append (λ n. numbers_in n.stretches) nodes (node ∷ []))))
             (order-append 0 (numbers_so_far c nodes) (numbers_in stretches) told.order more.order);
       }
@@ -333,7 +346,8 @@ module _ (frame : Frame) (sum : List ℕ) where
       (counted_on (head (Some []) says.0) names_line (map name_line came) (name_line allowed.0)
       (length came) left lines line says.4 allowed.3
       ∙ ap (λ (k : ℕ). head (Some []) says.0 ++ names_line (k + left)
-      ∷ (map name_line came ++ name_line allowed.0 ∷ [])) (sym (length-append came (allowed.0 ∷ [])))
+      ∷ (map name_line came ++ name_line allowed.0 ∷ []))
+      (sym (length-append came (allowed.0 ∷ [])))
       ∙ ap (λ (xs : List Text). head (Some []) says.0
       ++ names_line (length (came ++ allowed.0 ∷ []) + left) ∷ xs)
       (sym (map-append name_line came (allowed.0 ∷ [])))))
@@ -353,7 +367,8 @@ module _ (frame : Frame) (sum : List ℕ) where
       ∙ ap (λ (k : ℕ). top c ++ lists_line (k + left)
       ∷ (map list_line c.lists ++ list_line allowed.0 ∷ []))
       (sym (length-append c.lists (allowed.0 ∷ [])))
-      ∙ ap (λ (xs : List Text). top c ++ lists_line (length (c.lists ++ allowed.0 ∷ []) + left) ∷ xs)
+      ∙ ap (λ (xs : List Text). top c
+      ++ lists_line (length (c.lists ++ allowed.0 ∷ []) + left) ∷ xs)
       (sym (map-append list_line c.lists (allowed.0 ∷ [])))))
   step (AtQuery c) next lines line says allowed =
       subst (λ (s : Stage). Says s (lines ++ line ∷ [])) (sym allowed.5)
@@ -379,9 +394,10 @@ module _ (frame : Frame) (sum : List ℕ) where
       ∙ ap (λ (xs : List Text). asked c ++ query_line (length (nodes ++ node ∷ []) + length places)
       ∷ xs) (sym (map-append node_line nodes (node ∷ [])))))
   step (AtEnd c) next lines line says allowed =
-      subst (λ (s : Stage). Says s (lines ++ line ∷ [])) (sym allowed.2)
-      (fits c says.0 says.1 allowed.1,
-      one_more lines (asked c) line end_line says.2 allowed.0 ∙ whole c)
+      subst (λ (s : Stage). Says s (lines ++ line ∷ [])) (sym allowed.2) (
+        fits c says.0 says.1 allowed.1,
+        one_more lines (asked c) line end_line says.2 allowed.0 ∙ whole c,
+      )
   step (Ended c) next lines line says allowed = absurd allowed
 
   led : (stage behind : Stage) (front lines : List Text) → Says stage front

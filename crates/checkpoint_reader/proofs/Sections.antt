@@ -1,9 +1,8 @@
 -- The steps of the names, the lists and the nodes.
-use Rattle.std.proofs.Common.{◌≡◌, ◌<◌, ◌≤◌, ◌+◌, ◌-◌, ℕ, suc, List, [], ◌∷◌, ◌++◌, length, drop, get_or}
-use Rattle.std.proofs.Common.{refl, sym, ◌∙◌, ap, subst, arith, inl, inr, append_assoc, add-one}
+use Rattle.std.proofs.Common.{◌≡◌, ◌<◌, ◌+◌, ◌-◌, ℕ, suc, List, [], ◌∷◌, ◌++◌, length, drop, get_or}
+use Rattle.std.proofs.Common.{refl, sym, ◌∙◌, ap, subst, arith, inl, inr, append_assoc}
 use Rattle.std.proofs.Common.{drop-cons, Bool}
-use Rattle.std.specs.Prelude.{Some, slice_get, if◌then◌else◌, flat_map}
-use Rattle.std.specs.List.{Contains}
+use Rattle.std.specs.Prelude.{Some, slice_get, if◌then◌else◌}
 use Rattle.std.proofs.lemmas.Bool.Decides.{eqb_tells}
 use Rattle.std.proofs.lemmas.List.{append-nil}
 use Rattle.std.proofs.lemmas.List.Concat.{flat_map-append}
@@ -140,80 +139,82 @@ module _ (job : Job) (d : Suspended) (query : Tcq) (asked : Asked)
       (at_is : w.at ≡ get_or asked.places.items i 0) (tuples_are : w.tuples ≡ asked.tuples)
       (seen_is : w.seen ≡ seen_behind 0 (numbers_so_far d nodes)) (place : Place)
       (r : Reached job (behind_nodes (frame_of job) (drop i asked.places.items) nodes d) place)
-      where
-    cut : drop i asked.places.items ≡ w.at ∷ drop (i + 1) asked.places.items
-    cut = drop-cons asked.places.items i 0 within
-        ∙ ap (λ (at : ℕ). at ∷ drop (suc i) asked.places.items) (sym at_is)
-        ∙ ap (λ (k : ℕ). w.at ∷ drop k asked.places.items)
-        (let is : suc i ≡ i + 1 = omega arith in is)
+    where
+      cut : drop i asked.places.items ≡ w.at ∷ drop (i + 1) asked.places.items
+      cut = drop-cons asked.places.items i 0 within
+          ∙ ap (λ (at : ℕ). at ∷ drop (suc i) asked.places.items) (sym at_is)
+          ∙ ap (λ (k : ℕ). w.at ∷ drop k asked.places.items)
+          (let is : suc i ≡ i + 1 = omega arith in is)
 
-    node_stage : Reached job (AtNode w.at (drop (i + 1) asked.places.items) nodes d) place
-    node_stage = same_stage job (behind_nodes (frame_of job) (drop i asked.places.items) nodes d)
-        (AtNode w.at (drop (i + 1) asked.places.items) nodes d) place
-        (ap (λ (ps : List ℕ). behind_nodes (frame_of job) ps nodes d) cut) r
+      node_stage : Reached job (AtNode w.at (drop (i + 1) asked.places.items) nodes d) place
+      node_stage = same_stage job (behind_nodes (frame_of job) (drop i asked.places.items) nodes d)
+          (AtNode w.at (drop (i + 1) asked.places.items) nodes d) place
+          (ap (λ (ps : List ℕ). behind_nodes (frame_of job) ps nodes d) cut) r
 
-    all_tuples : w.tuples ≡ tuples_of (frame_of job) d query
-    all_tuples = tuples_are ∙ are.tuples
+      all_tuples : w.tuples ≡ tuples_of (frame_of job) d query
+      all_tuples = tuples_are ∙ are.tuples
 
-    pub node_bad : HasNo (IsNodeLine d.lists query w.tuples w.at w.seen)
-        (drop place.offset job.bytes.now)
-        → IsBadAt (frame_of job) job.digest.now job.bytes.now (place.lines + 1)
-    node_bad none =
-        bad_line job (AtNode w.at (drop (i + 1) asked.places.items) nodes d) place
-        (IsNodeLine d.lists query w.tuples w.at w.seen) node_stage none each (λ empty ends. ends)
-      where
-        each : (line : Text) (next : Stage) → Allows (frame_of job) job.digest.now
-            (AtNode w.at (drop (i + 1) asked.places.items) nodes d) line next
-            → IsNodeLine d.lists query w.tuples w.at w.seen line
-        each line next a =
-            let same : a.1.query ≡ query = one_query a.1.query a.1.next in
-            (
-              a.0,
-              record {
-                small = a.2;
-                are = subst (λ (t : ℕ). AreStretches d.lists query t w.at a.0) (sym all_tuples)
-                    (subst (λ (q : Tcq). AreStretches d.lists q (tuples_of (frame_of job) d q) w.at
-                    a.0) same a.1.are);
-                order = subst (λ (s : ℕ). AreInOrder s (numbers_in a.0)) (sym seen_is) a.1.order;
-              },
-              a.3,
-            )
-
-    pub node_step : (stretches : List Stretch) (later : ℕ) (next : Place)
-        → Tells job.bytes.now d.lists query w place stretches later next
-        → (new : List NodeLists)
-        → new ≡ nodes ++ (record { place = w.at; stretches = stretches }) ∷ []
-        → Reached job (behind_nodes (frame_of job) (drop (i + 1) asked.places.items) new d) next
-        × (later ≡ seen_behind 0 (numbers_so_far d new))
-    node_step stretches later next tells new new_is =
-        let node : NodeLists = record { place = w.at; stretches = stretches } in
-        let numbers : numbers_so_far d new ≡ numbers_so_far d nodes ++ numbers_in stretches =
-        ap (λ (ns : List NodeLists). numbers_so_far d ns) new_is
-        ∙ ap (λ (xs : List ℕ). numbers_of d.queries ++ xs)
-        (flat_map-append (λ (n : NodeLists). numbers_in n.stretches) nodes (node ∷ [])
-        ∙ ap (λ (xs : List ℕ). numbers_of_nodes nodes ++ xs) (append-nil (numbers_in stretches)))
-        ∙ sym (append_assoc (numbers_of d.queries) (numbers_of_nodes nodes) (numbers_in stretches))
-        in
-        (
-          subst (λ (ns : List NodeLists). Reached job
-              (behind_nodes (frame_of job) (drop (i + 1) asked.places.items) ns d) next) (sym new_is)
-              (next_reached job (AtNode w.at (drop (i + 1) asked.places.items) nodes d)
-              (behind_nodes (frame_of job) (drop (i + 1) asked.places.items) (nodes ++ node ∷ []) d)
-              place next (node_line node) node_stage tells.takes (
-                stretches,
+      pub node_bad : HasNo (IsNodeLine d.lists query w.tuples w.at w.seen)
+          (drop place.offset job.bytes.now)
+          → IsBadAt (frame_of job) job.digest.now job.bytes.now (place.lines + 1)
+      node_bad none =
+          bad_line job (AtNode w.at (drop (i + 1) asked.places.items) nodes d) place
+          (IsNodeLine d.lists query w.tuples w.at w.seen) node_stage none each (λ empty ends. ends)
+        where
+          each : (line : Text) (next : Stage) → Allows (frame_of job) job.digest.now
+              (AtNode w.at (drop (i + 1) asked.places.items) nodes d) line next
+              → IsNodeLine d.lists query w.tuples w.at w.seen line
+          each line next a =
+              let same : a.1.query ≡ query = one_query a.1.query a.1.next in (
+                a.0,
                 record {
-                  query = query;
-                  next = following;
-                  are = subst (λ (t : ℕ). AreStretches d.lists query t w.at stretches) all_tuples
-                      tells.are.are;
-                  order = subst (λ (s : ℕ). AreInOrder s (numbers_in stretches)) seen_is
-                      tells.are.order;
+                  small = a.2;
+                  are = subst (λ (t : ℕ). AreStretches d.lists query t w.at a.0) (sym all_tuples)
+                      (subst (λ (q : Tcq).
+                      AreStretches d.lists q (tuples_of (frame_of job) d q) w.at
+                      a.0) same a.1.are);
+                  order = subst (λ (s : ℕ). AreInOrder s (numbers_in a.0)) (sym seen_is) a.1.order;
                 },
-                tells.are.small,
-                refl,
-                refl,
-              )),
-          tells.seen_then ∙ ap (λ (s : ℕ). seen_behind s (numbers_in stretches)) seen_is
-              ∙ sym (seen-append 0 (numbers_so_far d nodes) (numbers_in stretches))
-              ∙ ap (seen_behind 0) (sym numbers),
-        )
+                a.3,
+              )
+
+      pub node_step : (stretches : List Stretch) (later : ℕ) (next : Place)
+          → Tells job.bytes.now d.lists query w place stretches later next
+          → (new : List NodeLists)
+          → new ≡ nodes ++ (record { place = w.at; stretches = stretches }) ∷ []
+          → Reached job (behind_nodes (frame_of job) (drop (i + 1) asked.places.items) new d) next
+          × (later ≡ seen_behind 0 (numbers_so_far d new))
+      node_step stretches later next tells new new_is =
+          let node : NodeLists = record { place = w.at; stretches = stretches } in
+          let numbers : numbers_so_far d new ≡ numbers_so_far d nodes ++ numbers_in stretches =
+          ap (λ (ns : List NodeLists). numbers_so_far d ns) new_is
+          ∙ ap (λ (xs : List ℕ). numbers_of d.queries ++ xs)
+          (flat_map-append (λ (n : NodeLists). numbers_in n.stretches) nodes (node ∷ [])
+          ∙ ap (λ (xs : List ℕ). numbers_of_nodes nodes ++ xs) (append-nil (numbers_in stretches)))
+          ∙ sym (append_assoc (numbers_of d.queries) (numbers_of_nodes nodes)
+          (numbers_in stretches))
+          in (
+            subst (λ (ns : List NodeLists). Reached job
+                (behind_nodes (frame_of job) (drop (i + 1) asked.places.items) ns d) next)
+                (sym new_is)
+                (next_reached job (AtNode w.at (drop (i + 1) asked.places.items) nodes d)
+                (behind_nodes (frame_of job) (drop (i + 1) asked.places.items)
+                (nodes ++ node ∷ []) d)
+                place next (node_line node) node_stage tells.takes (
+                  stretches,
+                  record {
+                    query = query;
+                    next = following;
+                    are = subst (λ (t : ℕ). AreStretches d.lists query t w.at stretches) all_tuples
+                        tells.are.are;
+                    order = subst (λ (s : ℕ). AreInOrder s (numbers_in stretches)) seen_is
+                        tells.are.order;
+                  },
+                  tells.are.small,
+                  refl,
+                  refl,
+                )),
+            tells.seen_then ∙ ap (λ (s : ℕ). seen_behind s (numbers_in stretches)) seen_is
+                ∙ sym (seen-append 0 (numbers_so_far d nodes) (numbers_in stretches))
+                ∙ ap (seen_behind 0) (sym numbers),
+          )

@@ -1,9 +1,8 @@
 -- The tests of stretches.
-use Rattle.std.proofs.Common.{◌≡◌, ◌≢◌, ℕ, zero, suc, ◌+◌, ◌-◌, ◌<◌, ◌≤◌, List, [], ◌∷◌, ◌++◌, length, map}
-use Rattle.std.proofs.Common.{take, drop, get_or, refl, sym, ◌∙◌, ap, subst, arith, inl, inr}
+use Rattle.std.proofs.Common.{◌≡◌, ◌≢◌, ℕ, zero, suc, ◌+◌, ◌<◌, ◌≤◌, List, [], ◌∷◌, ◌++◌, length}
+use Rattle.std.proofs.Common.{take, drop, get_or, sym, ◌∙◌, ap, subst, arith}
 use Rattle.std.specs.Prelude.{◌↔◌, max}
-use Rattle.std.specs.List.{All, sum_by}
-use Rattle.std.proofs.lemmas.Bool.{cases_lt}
+use Rattle.std.specs.List.{sum_by}
 use Rattle.std.proofs.lemmas.List.{take-append-drop, take_more, map-append}
 use Rattle.std.proofs.lemmas.List.Sums.{sum_by-append, sum_by_more}
 use Rattle.checkpoint_reader.proofs.Orders.{order-append, seen-append}
@@ -79,8 +78,7 @@ order_more seen xs i d within later new later_is order low new_is =
     let number : ℕ = (get_or xs i d).list in
     let whole : numbers_in (take (i + 1) xs) ≡ numbers_in (take i xs) ++ number ∷ [] =
     ap numbers_in (take_more xs i d within)
-    ∙ map-append (λ (s : Stretch). s.list) (take i xs) (get_or xs i d ∷ []) in
-    (
+    ∙ map-append (λ (s : Stretch). s.list) (take i xs) (get_or xs i d ∷ []) in (
       subst (AreInOrder seen) (sym whole) (order-append seen (numbers_in (take i xs)) (number ∷ [])
           order (subst (λ (n : ℕ). number ≤ n) later_is low, tt)),
       new_is ∙ ap (λ (n : ℕ). max n (suc number)) later_is

@@ -1,5 +1,5 @@
 -- What is answered.
-use Rattle.std.proofs.Common.{◌≡◌, ◌++◌, List, ℕ, refl, sym, ◌∙◌, ap}
+use Rattle.std.proofs.Common.{◌++◌, List, ◌∙◌, ap}
 use Rattle.std.specs.Prelude.{flat_map}
 use Rattle.std.proofs.lemmas.List.{append-nil}
 use Rattle.checkpoint_text.specs.Suspended.{Suspended}

@@ -1,5 +1,5 @@
 -- How far a text is read as a checkpoint, and what is answered.
-use Rattle.std.specs.Prelude.{◌≡◌, ◌≢◌, ◌+◌, ℕ, ◌<◌, ◌≤◌, Option, Some, None, List, [], ◌∷◌, ◌++◌, length}
+use Rattle.std.specs.Prelude.{◌≡◌, ℕ, ◌<◌, ◌≤◌, List, [], ◌∷◌, ◌++◌, length}
 use Rattle.std.specs.Prelude.{drop, flat_map}
 use Rattle.std.specs.List.{All}
 use Rattle.tcq_syntax.specs.Tcq.{Tcq}

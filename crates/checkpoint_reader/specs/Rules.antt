@@ -1,6 +1,6 @@
 -- Which line may come next in a checkpoint, after the lines before it.
-use Rattle.std.specs.Prelude.{◌≡◌, ◌⊎◌, ◌+◌, ℕ, zero, suc, ◌<◌, ◌≤◌, ◌^◌, nat_eq, if◌then◌else◌, Bool}
-use Rattle.std.specs.Prelude.{true, false, Option, Some, None, List, [], ◌∷◌, ◌++◌, length, map}
+use Rattle.std.specs.Prelude.{◌≡◌, ◌⊎◌, ℕ, zero, suc, ◌<◌, ◌^◌, nat_eq, if◌then◌else◌}
+use Rattle.std.specs.Prelude.{false, Option, Some, None, List, [], ◌∷◌, ◌++◌, length}
 use Rattle.std.specs.Prelude.{slice_get}
 use Rattle.std.specs.List.{All, Contains}
 use Rattle.dl_syntax.specs.Names.{IsDeclarable}
@@ -59,7 +59,8 @@ behind_lists frame (suc left) c = AtList left c
 
 -- the nodes of the query at these places are still to come
 abbrev pub behind_nodes : Frame → List ℕ → List NodeLists → Suspended → Stage
-behind_nodes frame [] nodes c = behind_queries frame (record c { queries = c.queries ++ nodes ∷ [] })
+behind_nodes frame [] nodes c =
+    behind_queries frame (record c { queries = c.queries ++ nodes ∷ [] })
 behind_nodes frame (place ∷ places) nodes c = AtNode place places nodes c
 
 -- ---- which line it is

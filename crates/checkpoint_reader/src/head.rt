@@ -1,6 +1,6 @@
 //! The lines at the head of a checkpoint.
 
-ghost use Rattle.std.specs.Prelude.{◌≡◌, ◌≤◌, ℕ, List, MatchOption, IfOk, OnOk, IfErr, length, drop};
+ghost use Rattle.std.specs.Prelude.{◌≡◌, ◌≤◌, MatchOption, IfOk, OnOk, IfErr, length, drop};
 ghost use Rattle.hex.specs.Hex.{IsBytes};
 ghost use Rattle.checkpoint_text.specs.Text.{version_line};
 ghost use Rattle.checkpoint_reader.specs.Lines.{Takes, HasNo, IsVersion, names_for};

@@ -1,6 +1,7 @@
 //! The line at a place.
 
-ghost use Rattle.std.specs.Prelude.{◌≡◌, ◌+◌, ◌≤◌, ◌<◌, ◌^◌, ◌++◌, length, drop, decimal, MatchOption};
+ghost use Rattle.std.specs.Prelude.{◌≡◌, ◌+◌, ◌≤◌, ◌<◌, ◌^◌, ◌++◌, length, drop};
+ghost use Rattle.std.specs.Prelude.{decimal, MatchOption};
 ghost use Rattle.checkpoint_reader.specs.Lines.{BeginsWith, HasNo, IsCounted, Lacks, Takes};
 
 use crate::place::Place;
@@ -24,11 +25,7 @@ pub(crate) fn next_line(bytes: &[u8], place: Place) -> Option<(&[u8], Place)>
 }
 
 /// What stands behind the word on the line at the place, and the place behind the line.
-pub(crate) fn read_word<'a>(
-    bytes: &'a [u8],
-    place: Place,
-    word: &[u8],
-) -> Option<(&'a [u8], Place)>
+pub(crate) fn read_word<'a>(bytes: &'a [u8], place: Place, word: &[u8]) -> Option<(&'a [u8], Place)>
     requires { place.offset ≤ length bytes.now }
     ensures { MatchOption result
         (HasNo (BeginsWith word.entry.now) (drop place.offset bytes.entry.now)) (λ r.

@@ -1,6 +1,7 @@
 //! The lines of the lists.
 
-ghost use Rattle.std.specs.Prelude.{◌≡◌, ◌≤◌, ◌<◌, ◌↔◌, ◌++◌, ℕ, List, length, drop, flat_map, max, IsTrue};
+ghost use Rattle.std.specs.Prelude.{◌≡◌, ◌≤◌, ◌<◌, ◌↔◌, ◌++◌, ℕ, List, length, drop};
+ghost use Rattle.std.specs.Prelude.{flat_map, max, IsTrue};
 ghost use Rattle.std.specs.Prelude.{MatchOption, IfOk, OnOk, IfErr};
 ghost use Rattle.std.specs.List.{All};
 ghost use Rattle.tcq_syntax.specs.End.{Has};
@@ -108,12 +109,7 @@ fn is_list(antichain: &Antichain, sets: &[u8], most: u64) -> bool
 }
 
 /// The list of the sets, where it is one of the queries', which have at most so many future nodes.
-fn list_of(
-    alloc: Global,
-    queries: &[Query],
-    most: u64,
-    sets: &[u8],
-) -> Result<Option<Link>, Memory>
+fn list_of(alloc: Global, queries: &[Query], most: u64, sets: &[u8]) -> Result<Option<Link>, Memory>
     requires most { (number : ℕ) → (number < most) ↔ IsFutureOf queries.now number }
     requires small { most ≤ 8 }
     ensures { IfOk result (λ r. MatchOption r (IsListOf queries.now sets.now → ⊥) (λ link.

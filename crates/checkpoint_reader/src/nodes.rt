@@ -1,7 +1,8 @@
 //! The lines of the queries and of their nodes.
 
-ghost use Rattle.std.specs.Prelude.{◌≡◌, ◌≤◌, ◌<◌, ◌+◌, ◌^◌, ◌↔◌, ◌++◌, ◌∷◌, [], ℕ, List, length, drop};
-ghost use Rattle.std.specs.Prelude.{MatchOption, IfOk, IfErr, OnOk, Some, slice_get, slice_index_or};
+ghost use Rattle.std.specs.Prelude.{◌≡◌, ◌≤◌, ◌<◌, ◌+◌, ◌^◌, ◌↔◌, ◌++◌, ◌∷◌, [], ℕ};
+ghost use Rattle.std.specs.Prelude.{List, length, drop, MatchOption, IfOk, IfErr, OnOk, Some};
+ghost use Rattle.std.specs.Prelude.{slice_get, slice_index_or};
 ghost use Rattle.std.specs.List.{All, AllPairs, Contains};
 ghost use Rattle.tcq_syntax.specs.Formula.{formula_at};
 ghost use Rattle.tcq_syntax.specs.End.{future_set};
@@ -17,8 +18,8 @@ ghost use Rattle.checkpoint_reader.specs.Progress.{IsAsked, IsLineFault, Reached
 
 use crate::draft::Draft;
 use crate::fault::CheckFault;
-use crate::own_sets::own_sets;
 use crate::line::{next_line, read_count};
+use crate::own_sets::own_sets;
 use crate::place::{Job, Place};
 use crate::stretches::{Wanted, fitting, read_stretches};
 use crate::words::rest_of_numbered;
@@ -69,12 +70,7 @@ fn kept_places(alloc: Global, query: &Query) -> Result<Vec<u16>, Memory>
 }
 
 /// The places of the nodes whose lines come, over so many tuples.
-fn places_of(
-    alloc: Global,
-    query: &Query,
-    accepted: u64,
-    tuples: u64,
-) -> Result<Vec<u16>, Memory>
+fn places_of(alloc: Global, query: &Query, accepted: u64, tuples: u64) -> Result<Vec<u16>, Memory>
     ensures { IfOk result (λ places. ArePlaces accepted tuples query.now places.items) }
 {
     if accepted == 0 || tuples == 0 {
@@ -197,7 +193,8 @@ fn read_nodes(
 fn read_number_of_nodes(bytes: &[u8], asked: &Asked, place: Place) -> Option<Place>
     requires { place.offset ≤ length bytes.now }
     ensures { MatchOption result
-        (HasNo (λ line. line ≡ query_line (length asked.now.places.items)) (drop place.offset bytes.now))
+        (HasNo (λ line. line ≡ query_line (length asked.now.places.items))
+        (drop place.offset bytes.now))
         (Takes bytes.now place (query_line (length asked.now.places.items))) }
 {
     let Some((count, next)) = read_count(bytes, place, b"query ") else {

@@ -15,10 +15,10 @@ ghost use Rattle.checkpoint_reader.specs.Progress.{IsLineFault, IsRead, IsRefusa
 use crate::draft::Draft;
 use crate::fault::CheckFault;
 use crate::head::{read_accepted, read_head};
+use crate::line::next_line;
 use crate::lists::read_lists;
 use crate::names::read_names;
 use crate::nodes::read_queries;
-use crate::line::next_line;
 use crate::place::{Job, Place};
 use checkpoint_text::Checkpoint;
 use dl_syntax::Ontology;
@@ -93,8 +93,8 @@ pub fn read(
     requires tables { All (λ query. IsTcq query.vars query.nodes) queries.now }
     requires few { length queries.now ≤ 16 }
     ensures ok { IfOk result (λ c.
-        IsCheckpoint (record { ontology = ontology.now; queries = queries.now }) digest.now bytes.now
-        c) }
+        IsCheckpoint (record { ontology = ontology.now; queries = queries.now }) digest.now
+        bytes.now c) }
     ensures fault { IfErr result
         (IsRefusalOf (record { ontology = ontology.now; queries = queries.now }) digest.now
         bytes.now) }

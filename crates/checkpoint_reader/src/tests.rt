@@ -11,8 +11,12 @@ use std::alloc::Global;
 use tcq_syntax::{Node, Query};
 
 const DIGEST: [u8; 32] = [0; 32];
-const WORKED: &[u8] = b"tom-checkpoint 2\ndigest 0000000000000000000000000000000000000000000000000000000000000000\naccepted 1\nnames 0\nlists 2\nlist 1\nlist\nquery 1\nnode 4 1:0 3:1\nend\n";
-const EMPTY: &[u8] = b"tom-checkpoint 1\ndigest 0000000000000000000000000000000000000000000000000000000000000000\naccepted 0\nlists 0\nend\n";
+
+const WORKED: &[u8] =
+    b"tom-checkpoint 2\ndigest 0000000000000000000000000000000000000000000000000000000000000000\naccepted 1\nnames 0\nlists 2\nlist 1\nlist\nquery 1\nnode 4 1:0 3:1\nend\n";
+
+const EMPTY: &[u8] =
+    b"tom-checkpoint 1\ndigest 0000000000000000000000000000000000000000000000000000000000000000\naccepted 0\nlists 0\nend\n";
 
 // `[A(?x)]`
 fn instances_of(alloc: Global, concept: u32) -> Result<Cq, Memory>
@@ -106,7 +110,13 @@ fn tells_other_sources(rt: HostRuntime) {
     let Err(fault) = told else {
         return;
     };
-    assert!(rt; fault == CheckFault::OtherSources { found: DIGEST, wanted });
+    assert!(rt;
+        fault
+            == CheckFault::OtherSources {
+                found: DIGEST,
+                wanted
+            }
+    );
 }
 
 #[test]
@@ -120,16 +130,26 @@ fn reads_the_empty_text(rt: HostRuntime) {
 #[test]
 fn tells_the_line_at_fault(rt: HostRuntime) {
     let alloc = rt.alloc();
-    let head = b"tom-checkpoint 2\ndigest 0000000000000000000000000000000000000000000000000000000000000000\n";
+    let head =
+        b"tom-checkpoint 2\ndigest 0000000000000000000000000000000000000000000000000000000000000000\n";
     let cases = [
         ("accepted 01\n", 3),
         ("accepted 1\nnames 1\nname s1\n", 5),
         ("accepted 1\nnames 1\nname some\n", 5),
         ("accepted 1\nnames 0\nlists 2\nlist 2\n", 6),
         ("accepted 1\nnames 0\nlists 2\nlist 1\nlist 1\n", 7),
-        ("accepted 1\nnames 0\nlists 1\nlist\nquery 1\nnode 4 4:0\nend\nend\n", 10),
-        ("accepted 1\nnames 0\nlists 1\nlist\nquery 1\nnode 4 3:0\nend\n", 8),
-        ("accepted 1\nnames 0\nlists 2\nlist\nlist 1\nquery 1\nnode 4 4:0\nend\n", 10),
+        (
+            "accepted 1\nnames 0\nlists 1\nlist\nquery 1\nnode 4 4:0\nend\nend\n",
+            10,
+        ),
+        (
+            "accepted 1\nnames 0\nlists 1\nlist\nquery 1\nnode 4 3:0\nend\n",
+            8,
+        ),
+        (
+            "accepted 1\nnames 0\nlists 2\nlist\nlist 1\nquery 1\nnode 4 4:0\nend\n",
+            10,
+        ),
         ("accepted 0\nnames 0\nlists 0\nquery 1\n", 6),
     ];
     for case in &cases {

@@ -12,7 +12,8 @@ use Rattle.tcq_syntax.proofs.Powers.{units_below}
 use Rattle.std.specs.List.{All}
 use Rattle.checkpoint_reader.proofs.arrivals.total_units.Goals as goal
 
-table : (queries : List Tcq) (i : ℕ) (q : Tcq) → i < length queries → All (λ (x : Tcq). IsTcq x.vars x.nodes) queries
+table : (queries : List Tcq) (i : ℕ) (q : Tcq) → i < length queries
+    → All (λ (x : Tcq). IsTcq x.vars x.nodes) queries
     → q ≡ slice_index_or queries i q → IsTcq q.vars q.nodes
 table queries i q within tables is =
     subst (λ (x : Tcq). IsTcq x.vars x.nodes) (sym is)

@@ -1,4 +1,4 @@
-use Rattle.std.proofs.Common.{◌≡◌, ◌+◌, ◌++◌, Bool, drop, ℕ, List, refl, sym, ◌∙◌, ap, subst, codes}
+use Rattle.std.proofs.Common.{◌≡◌, ◌+◌, ◌++◌, Bool, drop, refl, sym, ◌∙◌, ap, subst, codes}
 use Rattle.std.specs.Cmp.Lexicographic.{same_text}
 use Rattle.hex.specs.Hex.{encode_lower}
 use Rattle.checkpoint_text.specs.Text.{Text, digest_line, version_line}

@@ -1,4 +1,4 @@
-use Rattle.std.proofs.Common.{◌≡◌, ◌<◌, ℕ, List, refl, sym, ◌∙◌, subst}
+use Rattle.std.proofs.Common.{◌≡◌, ◌<◌, ℕ, List, refl, ◌∙◌, subst}
 use Rattle.std.specs.List.{All}
 use Rattle.std.proofs.lemmas.Bool.{false≢true}
 use Rattle.std.proofs.lemmas.List.Elements.{All-weaker}
@@ -32,14 +32,15 @@ returns-then-not-is_list c list =
     let same : c.in_ok-antichain.antichain ≡ c.args.sets.now =
     same_antichain c.in_ok-antichain.antichain c.args.sets.now minimal.antichain list.antichain
     (λ v less. minimal.same v less) in
-    false≢true (c.if-not-is_list.ensures.1 (same,
-    below c.args.queries.now c.args.most c.requires.most c.args.sets.now list.known))
+    false≢true (c.if-not-is_list.ensures.1 (
+      same,
+      below c.args.queries.now c.args.most c.requires.most c.args.sets.now list.known,
+    ))
 
 pub returns : goal.returns
 returns c =
     let minimal = c.in_ok-antichain.ensures in
-    let told = c.if-not-is_list.ensures.0 refl in
-    (
+    let told = c.if-not-is_list.ensures.0 refl in (
       record {
         antichain = subst IsAntichain told.0 minimal.antichain;
         known = known c.args.queries.now c.args.most c.requires.most c.args.sets.now told.1;

@@ -1,5 +1,5 @@
-use Rattle.std.proofs.Common.{◌≡◌, ℕ, List, sym, ◌∙◌, subst, codes}
-use Rattle.std.specs.Prelude.{flat_map, Option}
+use Rattle.std.proofs.Common.{◌≡◌, sym, ◌∙◌, subst, codes}
+use Rattle.std.specs.Prelude.{flat_map}
 use Rattle.std.specs.List.{Contains}
 use Rattle.checkpoint_text.specs.Suspended.{IsListOf}
 use Rattle.checkpoint_reader.specs.Lines.{IsListLine, set_text}

@@ -1,4 +1,4 @@
-use Rattle.std.proofs.Common.{◌≡◌, ℕ, List, refl, sym, ◌∙◌, ap}
+use Rattle.std.proofs.Common.{refl, ◌∙◌, ap}
 use Rattle.checkpoint_text.specs.Suspended.{Suspended}
 use Rattle.checkpoint_text.specs.Text.{lists_line}
 use Rattle.checkpoint_reader.specs.Rules.{AtLists, behind_lists}
@@ -22,7 +22,8 @@ loop-left-preserved c =
     let kept = c.in_ok-next.ensures.kept in
     record {
       reached = list_step c.args.job.now c.loop-left.draft c.read_list.new.draft c.loop-left.left
-          c.loop-left.place c.in-Some-2.next c.loop-left-test.true c.loop-left.invariant.reached adds
+          c.loop-left.place c.in-Some-2.next c.loop-left-test.true
+          c.loop-left.invariant.reached adds
           kept;
       kept = kept ∙ ap (λ (d : Suspended). let e : Suspended =
           record d { lists = c.read_list.new.draft.lists } in e) c.loop-left.invariant.kept;

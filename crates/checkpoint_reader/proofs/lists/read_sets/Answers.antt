@@ -1,5 +1,3 @@
-use Rattle.std.proofs.Common.{◌≡◌, ℕ, Bool, List, [], true, false, length, nat_eq, refl, sym, ◌∙◌, ap}
-use Rattle.std.proofs.lemmas.Bool.{false≢true}
 use Rattle.checkpoint_reader.proofs.Items.{no_sets, not_empty}
 use Rattle.checkpoint_reader.proofs.lists.read_sets.Goals as goal
 

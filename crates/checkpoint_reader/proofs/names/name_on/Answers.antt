@@ -1,5 +1,4 @@
-use Rattle.std.proofs.Common.{◌≡◌, ℕ, List, true, false, sym, ◌∙◌, subst, codes}
-use Rattle.std.proofs.lemmas.Bool.{false≢true}
+use Rattle.std.proofs.Common.{◌≡◌, true, false, sym, ◌∙◌, subst, codes}
 use Rattle.checkpoint_reader.specs.Lines.{MayCome}
 use Rattle.checkpoint_reader.proofs.Coming.{may_come}
 use Rattle.checkpoint_reader.proofs.Cuts.{same_back}

@@ -1,4 +1,4 @@
-use Rattle.std.proofs.Common.{◌≡◌, ℕ, List, [], refl, sym, subst}
+use Rattle.std.proofs.Common.{ℕ, List, [], refl, sym, subst}
 use Rattle.std.specs.Prelude.{Some}
 use Rattle.checkpoint_text.specs.Text.{names_line}
 use Rattle.checkpoint_reader.specs.Rules.{AtNames, begun, behind_names}

@@ -1,5 +1,4 @@
 use Rattle.std.proofs.Common.{◌≡◌, ◌<◌, ◌^◌, ℕ, List, length, sym, ◌∙◌, ap, subst}
-use Rattle.std.specs.List.{All}
 use Rattle.list_lemmas.proofs.Elements.{All-from_contains}
 use Rattle.tcq_syntax.specs.declared.nodes.Node.{Node}
 use Rattle.tcq_syntax.specs.Formula.{IsTable}

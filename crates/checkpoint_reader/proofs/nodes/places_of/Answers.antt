@@ -1,6 +1,6 @@
 use Rattle.std.proofs.Common.{arith}
 use Rattle.std.proofs.lemmas.Result.{IfOk-weaker}
-use Rattle.checkpoint_reader.proofs.KeptPlaces.{all_places, no_places}
+use Rattle.checkpoint_reader.proofs.KeptPlaces.{all_places}
 use Rattle.checkpoint_reader.proofs.nodes.places_of.Goals as goal
 
 pub returns : goal.returns

@@ -45,7 +45,9 @@ returns-in_default-fitting c =
     (flat_map stretch_text told.0) w.at c.in-Some-rest_of_numbered.ensures told.2) ∙ read.0) in
     let here : told.0 ≡ c.as_slice.result.now = same ∙ sym c.as_slice.ensures.value in
     c.in_default-fitting.ensures
-    (subst (λ (xs : List Stretch). AreStretches c.links.result.now c.args.query.now w.tuples w.at xs)
-    here (subst (λ (lists : List (List ℕ)). AreStretches lists c.args.query.now w.tuples w.at told.0)
+    (subst (λ (xs : List Stretch).
+    AreStretches c.links.result.now c.args.query.now w.tuples w.at xs) here
+    (subst (λ (lists : List (List ℕ)).
+    AreStretches lists c.args.query.now w.tuples w.at told.0)
     (sym c.links.ensures) told.1.are))
     (subst (λ (xs : List Stretch). AreInOrder w.seen (numbers_in xs)) here told.1.order))

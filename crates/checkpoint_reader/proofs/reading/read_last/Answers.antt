@@ -1,4 +1,4 @@
-use Rattle.std.proofs.Common.{◌≡◌, ◌<◌, length, drop, refl, sym, ◌∙◌, ap, subst, arith}
+use Rattle.std.proofs.Common.{◌≡◌, length, refl, sym, ap, subst, arith}
 use Rattle.std.proofs.lemmas.List.{length-drop}
 use Rattle.std.proofs.Math.ListN.{drop_of_length-le}
 use Rattle.checkpoint_text.specs.Suspended.{numbers_of, seen_behind}
@@ -19,8 +19,12 @@ returns-then-next-job-clause-fault c =
     subst (IsLineFault c.args.job.now) (sym c.fault-then-next-job.ensures)
     (bad_line c.args.job.now (Ended d) c.in-Some.next (λ line. ⊥) there
     (λ line later is one none. none) (λ line next allowed. allowed)
-    (λ empty ends. omega (arith, ap length empty, c.if-next-job.true,
-    length-drop c.in-Some.next.offset c.args.job.now.bytes.now)))
+    (λ empty ends. omega (
+      arith,
+      ap length empty,
+      c.if-next-job.true,
+      length-drop c.in-Some.next.offset c.args.job.now.bytes.now,
+    )))
 
 pub returns-clause-ok : goal.returns-clause-ok
 returns-clause-ok c =

@@ -1,4 +1,4 @@
-use Rattle.std.proofs.Common.{◌≡◌, ◌<◌, ◌≤◌, ℕ, take, get_or, sym, subst, arith, List}
+use Rattle.std.proofs.Common.{◌<◌, take, get_or, sym, subst, arith, List}
 use Rattle.std.specs.List.{All}
 use Rattle.std.proofs.lemmas.List.{take_more}
 use Rattle.std.proofs.lemmas.List.Elements.{All-push}
@@ -17,7 +17,12 @@ loop-stretch-preserved c =
     record {
       some = subst (λ (ys : List Stretch). All (λ (t : Stretch). 0 < t.count) ys)
           (sym (take_more xs i d within))
-          (All-push (λ (t : Stretch). 0 < t.count) (take i xs) s c.loop-stretch.invariant.some some);
-      sum = omega (arith, sum_by_more (λ (t : Stretch). t.count) xs i d within,
-          c.loop-stretch.invariant.sum, c.if-stretch-left.false);
+          (All-push (λ (t : Stretch). 0 < t.count) (take i xs) s c.loop-stretch.invariant.some
+          some);
+      sum = omega (
+        arith,
+        sum_by_more (λ (t : Stretch). t.count) xs i d within,
+        c.loop-stretch.invariant.sum,
+        c.if-stretch-left.false,
+      );
     }

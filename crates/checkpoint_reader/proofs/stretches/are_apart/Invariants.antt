@@ -1,4 +1,3 @@
-use Rattle.std.proofs.Common.{◌<◌}
 use Rattle.checkpoint_reader.proofs.Stretching.{AreApartTo}
 use Rattle.checkpoint_reader.proofs.stretches.are_apart.Given as goal
 

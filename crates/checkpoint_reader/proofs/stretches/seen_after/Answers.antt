@@ -1,4 +1,4 @@
-use Rattle.std.proofs.Common.{◌≡◌, ◌≤◌, suc, get_or, arith}
+use Rattle.std.proofs.Common.{◌≡◌, suc, get_or, arith}
 use Rattle.std.specs.Prelude.{max}
 use Rattle.checkpoint_text.specs.declared.checkpoint.Stretch.{Stretch}
 use Rattle.checkpoint_reader.proofs.Stretching.{order_at, order_more}

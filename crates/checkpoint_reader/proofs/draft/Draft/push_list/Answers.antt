@@ -1,4 +1,4 @@
-use Rattle.std.proofs.Common.{◌≡◌, ◌++◌, ◌∷◌, [], List, ℕ, sym, ◌∙◌, ap, subst}
+use Rattle.std.proofs.Common.{◌≡◌, ◌++◌, ◌∷◌, [], List, ℕ, ◌∙◌, ap, subst}
 use Rattle.std.specs.List.{Contains}
 use Rattle.checkpoint_text.specs.Suspended.{Suspended}
 use Rattle.checkpoint_reader.specs.contracts.draft.Draft.{the_view}
