@@ -1,4 +1,4 @@
-//! How many tuples in a row have each chain.
+//! How many tuples in a row have each antichain.
 
 ghost use Rattle.std.specs.Prelude.{◌≡◌, ◌++◌, [], ◌∷◌, IfOk, OnOk};
 ghost use Rattle.answer_tables.specs.Lengths.{antichains_in, AreRunsOf};

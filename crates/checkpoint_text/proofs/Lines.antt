@@ -1,10 +1,10 @@
 -- Lists of lines, which say one thing each.
-use Rattle.std.proofs.Common.{◌≡◌, ◌≢◌, ℕ, ◌+◌, ◌<◌, ◌^◌, List, [], ◌∷◌, ◌++◌, map, refl, sym, ◌∙◌}
+use Rattle.std.proofs.Common.{◌≡◌, ◌≢◌, ℕ, ◌<◌, ◌^◌, List, [], ◌∷◌, ◌++◌, map, refl, sym, ◌∙◌}
 use Rattle.std.proofs.Common.{ap, arith, codes, decimal, length, append_assoc, length-append}
 use Rattle.std.specs.Prelude.{flat_map}
 use Rattle.std.specs.List.{All}
 use Rattle.std.proofs.lemmas.List.{append_cancel_left}
-use Rattle.std.proofs.lemmas.List.Elements.{All-nil, All-cons, All-head, All-tail, All-append}
+use Rattle.std.proofs.lemmas.List.Elements.{All-cons, All-head, All-tail, All-append}
 use Rattle.std.proofs.lemmas.Fmt.{decimal_injective}
 use Rattle.dl_syntax.specs.Names.{IsName}
 use Rattle.checkpoint_text.specs.declared.checkpoint.Stretch.{Stretch}
@@ -12,7 +12,7 @@ use Rattle.checkpoint_text.specs.Suspended.{NodeLists}
 use Rattle.checkpoint_text.specs.Laws.{IsSmallNode, IsSmallStretch}
 use Rattle.checkpoint_text.specs.Text.{Text, ended, list_line, name_line, node_line, stretch_text}
 use Rattle.checkpoint_text.proofs.Words.{Without, cut, cut_word, decimal_colon, decimal_without}
-use Rattle.checkpoint_text.proofs.Words.{name_without, words_end, words_unique, written_out}
+use Rattle.checkpoint_text.proofs.Words.{words_end, words_unique}
 
 -- lines are cut at their newlines in one way
 pub lines_unique : (xs ys : List Text) → All (Without 10) xs → All (Without 10) ys
@@ -20,12 +20,20 @@ pub lines_unique : (xs ys : List Text) → All (Without 10) xs → All (Without 
 lines_unique [] [] one other same = refl
 lines_unique [] (y ∷ ys) one other same =
     let long = ap length same in
-    absurd (omega (arith, long, length-append (ended y) (flat_map ended ys),
-    length-append y (10 ∷ [])))
+    absurd (omega (
+      arith,
+      long,
+      length-append (ended y) (flat_map ended ys),
+      length-append y (10 ∷ []),
+    ))
 lines_unique (x ∷ xs) [] one other same =
     let long = ap length same in
-    absurd (omega (arith, long, length-append (ended x) (flat_map ended xs),
-    length-append x (10 ∷ [])))
+    absurd (omega (
+      arith,
+      long,
+      length-append (ended x) (flat_map ended xs),
+      length-append x (10 ∷ []),
+    ))
 lines_unique (x ∷ xs) (y ∷ ys) one other same =
     let parts = cut 10 x y (flat_map ended xs) (flat_map ended ys) (All-head (Without 10) x xs one)
     (All-head (Without 10) y ys other) (sym (append_assoc x (10 ∷ []) (flat_map ended xs))
@@ -52,7 +60,7 @@ fronts {X} line P injective (x ∷ xs) (y ∷ ys) r s one other other_r other_s 
     (All-tail P y ys other) other_r other_s (cc) in
     let head : line x ≡ line y = cc in
     let first : x ≡ y =
-        injective x y (All-head P x xs one) (All-head P y ys other) head in
+    injective x y (All-head P x xs one) (All-head P y ys other) head in
     (ap (λ (z : X). z ∷ xs) first ∙ ap (λ (zs : List X). y ∷ zs) rest.0, rest.1)
 
 -- ---- a name's line
@@ -97,9 +105,9 @@ pub node_injective : (x y : NodeLists) → IsSmallNode x → IsSmallNode y → n
     → x ≡ y
 node_injective x y one other same =
     let rest : decimal x.place ++ flat_map stretch_text x.stretches
-        ≡ decimal y.place ++ flat_map stretch_text y.stretches =
-        append_cancel_left (codes "node ") (decimal x.place ++ flat_map stretch_text x.stretches)
-        (decimal y.place ++ flat_map stretch_text y.stretches) same in
+    ≡ decimal y.place ++ flat_map stretch_text y.stretches =
+    append_cancel_left (codes "node ") (decimal x.place ++ flat_map stretch_text x.stretches)
+    (decimal y.place ++ flat_map stretch_text y.stretches) same in
     let parts = cut_word (decimal x.place) (decimal y.place) (flat_map stretch_text x.stretches)
     (flat_map stretch_text y.stretches) (decimal_without 32 x.place (omega arith))
     (decimal_without 32 y.place (omega arith)) (words_end pair_text x.stretches)

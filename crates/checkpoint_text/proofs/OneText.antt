@@ -1,5 +1,5 @@
 -- A text is that of one checkpoint.
-use Rattle.std.proofs.Common.{◌≡◌, ◌≢◌, ℕ, ◌+◌, ◌<◌, ◌^◌, List, [], ◌∷◌, ◌++◌, map, refl, sym, ◌∙◌}
+use Rattle.std.proofs.Common.{◌≡◌, ◌≢◌, ℕ, ◌<◌, ◌^◌, List, [], ◌∷◌, ◌++◌, map, refl, sym, ◌∙◌}
 use Rattle.std.proofs.Common.{ap, arith, codes, decimal, length, append_assoc, get_or}
 use Rattle.std.specs.Prelude.{flat_map, Option, Some, None}
 use Rattle.std.specs.List.{All}
@@ -11,11 +11,11 @@ use Rattle.dl_syntax.specs.Names.{IsDeclarable, IsName}
 use Rattle.checkpoint_text.specs.declared.checkpoint.Stretch.{Stretch}
 use Rattle.checkpoint_text.specs.Suspended.{AreNames, Frame, IsListOf, IsSuspended, NodeLists}
 use Rattle.checkpoint_text.specs.Suspended.{Suspended}
-use Rattle.checkpoint_text.specs.Laws.{HasSmallNumbers, IsSmallNode, OneText}
+use Rattle.checkpoint_text.specs.Laws.{IsSmallNode, OneText}
 use Rattle.checkpoint_text.specs.Text.{Text, accepted_line, digest_line, end_line, ended}
 use Rattle.checkpoint_text.specs.Text.{lines_of_names, lines_of_query, list_line, lists_line}
 use Rattle.checkpoint_text.specs.Text.{name_line, names_line, node_line, query_line, stretch_text}
-use Rattle.checkpoint_text.specs.Text.{text_of, version_line}
+use Rattle.checkpoint_text.specs.Text.{version_line}
 use Rattle.checkpoint_text.proofs.Words.{Without, decimal_without, name_without, written_out}
 use Rattle.checkpoint_text.proofs.Lines.{AreSmall, BeginsOther, fronts, lines_unique}
 use Rattle.checkpoint_text.proofs.Lines.{list_injective, name_injective, node_injective}
@@ -70,9 +70,9 @@ queries_unique (x ∷ xs) [] one other same =
     let first = ap first_byte same in absurd (omega (arith, first))
 queries_unique (x ∷ xs) (y ∷ ys) one other same =
     let whole : query_line (length x) ∷ (map node_line x ++ behind_lists xs)
-        ≡ query_line (length y) ∷ (map node_line y ++ behind_lists ys) =
-        sym (append_assoc (lines_of_query x) (flat_map lines_of_query xs) (end_line ∷ []))
-        ∙ same ∙ append_assoc (lines_of_query y) (flat_map lines_of_query ys) (end_line ∷ []) in
+    ≡ query_line (length y) ∷ (map node_line y ++ behind_lists ys) =
+    sym (append_assoc (lines_of_query x) (flat_map lines_of_query xs) (end_line ∷ []))
+    ∙ same ∙ append_assoc (lines_of_query y) (flat_map lines_of_query ys) (end_line ∷ []) in
     let tail : map node_line x ++ behind_lists xs ≡ map node_line y ++ behind_lists ys = cc in
     let parts = fronts node_line IsSmallNode node_injective x y (behind_lists xs) (behind_lists ys)
     (All-head (All IsSmallNode) x xs one) (All-head (All IsSmallNode) y ys other) (no_node xs)
@@ -165,7 +165,8 @@ tail_of names n lists queries =
 
 names_free : (names : Option (List Text)) → HasNames names → All (Without 10) (lines_of_names names)
 names_free None has = All-nil (Without 10)
-names_free (Some names) has = All-cons (Without 10) (names_line (length names)) (map name_line names)
+names_free (Some names) has =
+    All-cons (Without 10) (names_line (length names)) (map name_line names)
     (counted_free (codes "names ") (length names) (written_out 10 (codes "names ") refl refl))
     (all_free name_line IsName (λ name is. All-append (λ b. b ≢ 10) (codes "name ") name
     (written_out 10 (codes "name ") refl refl) (name_without name is)) names has)
@@ -219,7 +220,8 @@ same_parts : (c d : Suspended) → c.names ≡ d.names → c.accepted ≡ d.acce
 same_parts c d names accepted lists queries =
     ap (λ (x : Option (List Text)). record c { names = x }) names
     ∙ ap (λ (x : ℕ). record c { names = d.names; accepted = x }) accepted
-    ∙ ap (λ (x : List (List ℕ)). record c { names = d.names; accepted = d.accepted; lists = x }) lists
+    ∙ ap (λ (x : List (List ℕ)).
+    record c { names = d.names; accepted = d.accepted; lists = x }) lists
     ∙ ap (λ (x : List (List NodeLists)). record d { queries = x }) queries
 
 pub one_text : OneText
@@ -241,7 +243,7 @@ one_text frame digest c d c_fits d_fits c_small d_small same =
     (tail_free d.names d.accepted d.lists d.queries d_names d_lists d_small) rest in
     let head : accepted_line c.accepted ≡ accepted_line d.accepted = cc in
     let behind : lines_of_names c.names ++ behind_names c.lists c.queries
-        ≡ lines_of_names d.names ++ behind_names d.lists d.queries = cc in
+    ≡ lines_of_names d.names ++ behind_names d.lists d.queries = cc in
     let names = names_unique c.names d.names (behind_names c.lists c.queries)
     (behind_names d.lists d.queries) c_names d_names
     (lists_is_no_name (length c.lists) (map list_line c.lists ++ behind_lists c.queries))

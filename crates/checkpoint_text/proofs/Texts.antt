@@ -1,5 +1,6 @@
 -- Texts put together of lines.
-use Rattle.std.proofs.Common.{◌≡◌, ℕ, List, [], ◌∷◌, ◌++◌, length, map, refl, sym, ◌∙◌, ap, append_assoc}
+use Rattle.std.proofs.Common.{◌≡◌, ℕ, List, [], ◌∷◌, ◌++◌, length, map, refl, sym, ◌∙◌}
+use Rattle.std.proofs.Common.{ap, append_assoc}
 use Rattle.std.proofs.Common.{codes, decimal, flat_map}
 use Rattle.std.proofs.lemmas.Grind.{flat_map-append}
 use Rattle.checkpoint_text.specs.Suspended.{NodeLists, Suspended}
@@ -58,7 +59,8 @@ text_parts digest c =
     ++ (ended (accepted_line c.accepted) ++ t)))
     (flat_map-append ended (lines_of_names c.names) (lists_line (length c.lists)
     ∷ (map list_line c.lists ++ (flat_map lines_of_query c.queries ++ end_line ∷ [])))
-    ∙ ap (λ t. flat_map ended (lines_of_names c.names) ++ (ended (lists_line (length c.lists)) ++ t))
+    ∙ ap (λ t. flat_map ended (lines_of_names c.names)
+    ++ (ended (lists_line (length c.lists)) ++ t))
     (lines_of_rest c.lists c.queries))
 
 -- what its parts append to is the text

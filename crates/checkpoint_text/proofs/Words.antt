@@ -1,12 +1,13 @@
 -- Words, which are cut in one way where a byte comes that they don't have.
 use Rattle.std.proofs.Common.{◌≡◌, ◌≢◌, ℕ, zero, suc, ◌+◌, ◌<◌, ◌≤◌, ◌^◌, ◌%◌, ◌/◌, List, [], ◌∷◌}
-use Rattle.std.proofs.Common.{◌++◌, Bool, true, false, not, nat_eq, refl, sym, ◌∙◌, ap, subst, arith}
-use Rattle.std.proofs.Common.{decimal, true≢false, length, length-append, append_assoc, nat_lt, inl, inr}
+use Rattle.std.proofs.Common.{◌++◌, Bool, true, false, not, nat_eq, refl, sym, ◌∙◌, ap}
+use Rattle.std.proofs.Common.{subst, arith}
+use Rattle.std.proofs.Common.{decimal, true≢false, length, nat_lt, inl, inr}
 use Rattle.std.specs.Prelude.{if◌then◌else◌, IsTrue, ◌==◌, flat_map, ◌⊎◌}
 use Rattle.std.specs.List.{All, list_all}
 use Rattle.std.specs.Fmt.{digits, digits_onto, digit_glyph}
 use Rattle.std.proofs.lemmas.List.Elements.{All-nil, All-cons, All-head, All-tail, All-push}
-use Rattle.std.proofs.lemmas.List.Elements.{All-append, All-weaker}
+use Rattle.std.proofs.lemmas.List.Elements.{All-weaker}
 use Rattle.std.proofs.lemmas.List.Sums.{AllPass-from_list_all}
 use Rattle.std.proofs.lemmas.Fmt.{decimal_by_steps}
 use Rattle.dl_syntax.specs.Names.{IsName, is_letter, is_name_byte}
@@ -97,7 +98,8 @@ Ends text = (text ≡ []) ⊎ ((rest : List ℕ) × (text ≡ 32 ∷ rest))
 pub cut_word : (a f r s : List ℕ) → Without 32 a → Without 32 f → Ends r → Ends s
     → a ++ r ≡ f ++ s → (a ≡ f) × (r ≡ s)
 cut_word [] [] r s one other r_ends s_ends same = (refl, same)
-cut_word [] (y ∷ f) r s one other (inl none) s_ends same = absurd (never y (f ++ s) (sym none ∙ same))
+cut_word [] (y ∷ f) r s one other (inl none) s_ends same =
+    absurd (never y (f ++ s) (sym none ∙ same))
   where
     never : (y : ℕ) (ys : List ℕ) → [] ≡ y ∷ ys → ⊥
     never y ys e = let long = ap length e in omega (arith, long)
@@ -134,7 +136,7 @@ words_unique word P free injective (x ∷ xs) [] one other same =
     let long = ap length same in absurd (omega (arith, long))
 words_unique {X} word P free injective (x ∷ xs) (y ∷ ys) one other same =
     let tail : word x ++ flat_map (λ z. 32 ∷ word z) xs
-        ≡ word y ++ flat_map (λ z. 32 ∷ word z) ys = cc in
+    ≡ word y ++ flat_map (λ z. 32 ∷ word z) ys = cc in
     let parts = cut_word (word x) (word y) (flat_map (λ z. 32 ∷ word z) xs)
     (flat_map (λ z. 32 ∷ word z) ys) (free x (All-head P x xs one)) (free y (All-head P y ys other))
     (words_end word xs) (words_end word ys) tail in

@@ -1,7 +1,6 @@
-use Rattle.std.proofs.Common.{◌≡◌, ◌∷◌, ◌++◌, take}
-use Rattle.std.specs.Prelude.{decimal, flat_map}
-use Rattle.checkpoint_text.specs.Text.{ended, lines_of_query, list_line, name_line, node_line}
-use Rattle.checkpoint_text.specs.Text.{stretch_text}
+use Rattle.std.proofs.Common.{◌≡◌, ◌++◌, take}
+use Rattle.std.specs.Prelude.{flat_map}
+use Rattle.checkpoint_text.specs.Text.{ended, node_line}
 use Rattle.checkpoint_text.proofs.writing.append_nodes.Given as goal
 
 abbrev pub invariant-loop-node : goal.invariant-loop-node

@@ -1,7 +1,5 @@
 use Rattle.std.proofs.Common.{◌≡◌, ◌∷◌, ◌++◌, take}
 use Rattle.std.specs.Prelude.{decimal, flat_map}
-use Rattle.checkpoint_text.specs.Text.{ended, lines_of_query, list_line, name_line, node_line}
-use Rattle.checkpoint_text.specs.Text.{stretch_text}
 use Rattle.checkpoint_text.proofs.writing.append_sets.Given as goal
 
 abbrev pub invariant-loop-set : goal.invariant-loop-set
