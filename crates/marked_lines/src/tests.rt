@@ -1,8 +1,6 @@
 //! Tests of the public calls.
 
 use super::*;
-use dl_syntax::Memory;
-use std::alloc::Global;
 use std::test::Fail;
 use stream_report::GivenLine;
 
