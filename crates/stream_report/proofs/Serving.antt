@@ -15,13 +15,14 @@ use Rattle.stream_report.specs.declared.ending.Ending.{Ending}
 use Rattle.stream_report.specs.declared.ending.Ending.TheVariants.{Done, Usage, Refused, ReadFault}
 use Rattle.stream_report.specs.declared.ending.Ending.TheVariants.{WriteFault, Memory, StreamLimit}
 use Rattle.stream_report.specs.Outside.{Ports}
-use Rattle.stream_report.specs.Told.{Manner, Told, Part, Report, Tells, TellsLine, Closes}
-use Rattle.stream_report.specs.Ends.{ending_of, BeginsPart, Wrote, Streamed, Written, IsWritten}
-use Rattle.stream_report.specs.Ends.{Finishes}
+use Rattle.stream_report.specs.Told.{Manner, Told, Part, Tells, TellsLine, Closes}
+use Rattle.stream_report.specs.Ends.{ending_of, BeginsPart, Streamed, Written, IsWritten}
+use Rattle.stream_report.specs.Ends.{Finishes, ReportTo, WroteTo, StreamedTo}
 use Rattle.edge_io.specs.Writing.{IsProperFront}
 use Rattle.stream_report.specs.Writing.{Flushes}
 use Rattle.stream_report.specs.Serving.{Serves}
 use Rattle.stream_report.proofs.ToldLaws.{told_joined}
+use Rattle.stream_report.proofs.WholeReports.{cut_off}
 
 pub tells_nothing : {State : Type 0} (manner : Manner State) (state : State) (stands_for : State
     → Type 0) (number : ℕ) (gathered : List ℕ) → stands_for state
@@ -302,34 +303,38 @@ module _ {State : Type 0} (manner : Manner State) (first : State) (stands_for : 
     whole_report : (ln' : Option (List ℕ)) (new : Reading)
         (reads : Reads (fresh (2 ^ 40)) new lb ln' (so_far.given ++ [])) (text : List ℕ)
         → new.is_ended ≡ true → Closes manner so_far.after gathered text
-        → Report manner first (items reads.piece) (so_far.wrote ++ text)
+        → ReportTo manner first stands_for (items reads.piece) (so_far.wrote ++ text)
     whole_report ln' new reads text ended closes = record {
-      told = so_far.told;
-      after = so_far.after;
-      tells = subst (λ l. Told manner.step l 1 first so_far.told so_far.after)
-          (sym (Reads-ended (2 ^ 40) new lb ln' (so_far.given ++ []) reads ended ∙ append-nil
-          so_far.given)) so_far.tells;
-      last = closes.last;
-      closes = closes.closes;
-      is = ap (λ l. so_far.wrote ++ l) closes.gathers
-          ∙ (sym (append_assoc so_far.wrote gathered closes.last)
-          ∙ (ap (λ l. l ++ closes.last) so_far.gathers ∙ append_assoc manner.opening so_far.told
-          closes.last));
+      report = record {
+        told = so_far.told;
+        after = so_far.after;
+        tells = subst (λ l. Told manner.step l 1 first so_far.told so_far.after)
+            (sym (Reads-ended (2 ^ 40) new lb ln' (so_far.given ++ []) reads ended ∙ append-nil
+            so_far.given)) so_far.tells;
+        last = closes.last;
+        closes = closes.closes;
+        is = ap (λ l. so_far.wrote ++ l) closes.gathers
+            ∙ (sym (append_assoc so_far.wrote gathered closes.last)
+            ∙ (ap (λ l. l ++ closes.last) so_far.gathers ∙ append_assoc manner.opening so_far.told
+            closes.last));
+      };
+      stands = so_far.stands;
     }
 
     -- how a run ends behind what was written
     ends_by : {Refusal : Type 0} (ending : Ending Refusal) (at_end : Type 0)
         (taken wrote text : List ℕ) → at_end → length taken ≤ 2 ^ 40
-        → Report manner first (items taken) (so_far.wrote ++ text) → IsWritten ending wrote text
-        → Wrote ending manner first at_end taken (so_far.wrote ++ wrote)
+        → ReportTo manner first stands_for (items taken) (so_far.wrote ++ text)
+        → IsWritten ending wrote text
+        → WroteTo ending manner first stands_for at_end taken (so_far.wrote ++ wrote)
     ends_by Done at_end taken wrote text ended within report is = (
       ended,
       within,
-      subst (λ l. Report manner first (items taken) (so_far.wrote ++ l)) (sym is)
+      subst (λ l. ReportTo manner first stands_for (items taken) (so_far.wrote ++ l)) (sym is)
           report,
     )
     ends_by WriteFault at_end taken wrote text ended within report is =
-        inr (ended, within, (so_far.wrote ++ text, report, behind wrote text is))
+        inr (ended, within, (so_far.wrote ++ text, report.report, behind wrote text is))
     ends_by Usage at_end taken wrote text ended within report is = is
     ends_by (Refused refusal) at_end taken wrote text ended within report is = is
     ends_by ReadFault at_end taken wrote text ended within report is = absurd is
@@ -339,7 +344,7 @@ module _ {State : Type 0} (manner : Manner State) (first : State) (stands_for : 
     written : {Refusal : Type 0} (ending : Ending Refusal) (ln' gn' : Option (List ℕ))
         (new : Reading) (text : List ℕ) → NextDid reading new ln ln' (Ok End)
         → Closes manner so_far.after gathered text → Written ending text gn gn'
-        → Streamed ending manner first before (at_ports ln' gn')
+        → StreamedTo ending manner first stands_for before (at_ports ln' gn')
     written ending ln' gn' new text did closes ends =
         let all : Reads (fresh (2 ^ 40)) new lb ln' (so_far.given ++ []) =
         then_reads ln' new [] did.reads in
@@ -359,11 +364,12 @@ module _ {State : Type 0} (manner : Manner State) (first : State) (stands_for : 
     pub finishes : {Refusal : Type 0} (ending : Ending Refusal) (ln' gn' : Option (List ℕ))
         (new : Reading) → NextDid reading new ln ln' (Ok End)
         → ((at : State) → stands_for at → Finishes ending manner at gathered gn gn')
-        → Streamed ending manner first before (at_ports ln' gn')
+        → StreamedTo ending manner first stands_for before (at_ports ln' gn')
     finishes {Refusal} Memory ln' gn' new did finish =
-        subst (λ g. Streamed {Refusal = Refusal} Memory manner first before (at_ports ln' g))
-        (sym (finish so_far.after so_far.stands))
-        (memory_failed ln' new [] did.reads did.within did.ended_within)
+        subst (λ g. StreamedTo {Refusal = Refusal} Memory manner first stands_for before
+        (at_ports ln' g)) (sym (finish so_far.after so_far.stands))
+        (cut_off manner first stands_for Memory before (at_ports ln' gn) tt
+        (memory_failed ln' new [] did.reads did.within did.ended_within))
     finishes Done ln' gn' new did finish = let f = finish so_far.after so_far.stands in
         written Done ln' gn' new f.0 did f.1 f.2
     finishes Usage ln' gn' new did finish = let f = finish so_far.after so_far.stands in

@@ -74,6 +74,31 @@ pub record Streamed {Refusal State : Type 0} (ending : Ending Refusal) (manner :
   pub gains : Gains before.out.got now.out.got wrote
   pub writes : Wrote ending manner first (IsAtEnd now.input.left) taken wrote
 
+-- the whole text of these lines, told up to a state that this holds of
+pub record ReportTo {State : Type 0} (manner : Manner State) (first : State) (stands_for : State
+    → Type 0) (lines : List StreamLine) (text : List ℕ) : Type 0 where
+  pub report : Report manner first lines text
+  pub stands : stands_for report.after
+
+-- what was written, and if the whole text was, what holds of the state behind it
+abbrev pub WroteTo : {Refusal State : Type 0} → Ending Refusal → Manner State → State
+    → (State → Type 0) → Type 0 → List ℕ → List ℕ → Type 0
+WroteTo Done manner first stands_for at_end taken wrote =
+    at_end × (length taken ≤ 2 ^ 40) × ReportTo manner first stands_for (items taken) wrote
+WroteTo ending manner first stands_for at_end taken wrote =
+    Wrote ending manner first at_end taken wrote
+
+-- a run took these bytes and wrote these, and if it wrote the whole text, this holds of the very
+-- state behind it
+pub record StreamedTo {Refusal State : Type 0} (ending : Ending Refusal) (manner : Manner State)
+    (first : State) (stands_for : State → Type 0) (before now : Ports) : Type 0 where
+  pub taken : List ℕ
+  pub takes : Takes before.input.left now.input.left taken
+  pub most : length taken ≤ 2 ^ 40 + 1
+  pub wrote : List ℕ
+  pub gains : Gains before.out.got now.out.got wrote
+  pub writes : WroteTo ending manner first stands_for (IsAtEnd now.input.left) taken wrote
+
 -- a text was written, or a proper beginning of it
 abbrev pub IsWritten : {Refusal : Type 0} → Ending Refusal → List ℕ → List ℕ → Type 0
 IsWritten Done wrote text = wrote ≡ text

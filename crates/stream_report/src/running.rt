@@ -3,7 +3,7 @@
 ghost use Rattle.std.specs.Prelude.{◌≡◌, ◌≤◌, ◌<◌, ◌+◌, ◌^◌, ◌++◌, ℕ, Ok, OnOk, length};
 ghost use Rattle.edge_io.specs.Causes.{Rose};
 ghost use Rattle.edge_io.specs.Reading.{given_by, outcome_of_line};
-ghost use Rattle.stream_report.specs.Ends.{Streamed, Finishes, HasFault, ending_of};
+ghost use Rattle.stream_report.specs.Ends.{Streamed, StreamedTo, Finishes, HasFault, ending_of};
 ghost use Rattle.stream_report.specs.Outside.{ports_of};
 ghost use Rattle.stream_report.specs.Told.{Tells};
 
@@ -15,7 +15,8 @@ use std::alloc::Global;
 /// How many bytes a run takes at most, but for one.
 const STREAM_LIMIT: u64 = 1 << 40;
 
-/// Reads the input to its end, and writes what the reporter tells of it.
+/// Reads the input to its end, and writes what the reporter tells of it. Where it wrote all, the
+/// reporter stands for the state behind the last line.
 pub fn report_stream<Refusal, R: Reporter, S: Source, K: Sink>(
     alloc: Global,
     reporter: &mut R,
@@ -25,6 +26,10 @@ pub fn report_stream<Refusal, R: Reporter, S: Source, K: Sink>(
     requires { R.counted reporter.old ≡ 0 }
     ensures ends { (first : R.State) → R.stands reporter.old first →
         Streamed result (R.manner (R.task reporter.old)) first
+        (ports_of S.Source K.Sink input.old out.old)
+        (ports_of S.Source K.Sink input.new out.new) }
+    ensures stands { (first : R.State) → R.stands reporter.old first →
+        StreamedTo result (R.manner (R.task reporter.old)) first (R.stands reporter.new)
         (ports_of S.Source K.Sink input.old out.old)
         (ports_of S.Source K.Sink input.new out.new) }
     ensures fault { HasFault result

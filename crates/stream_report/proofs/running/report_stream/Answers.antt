@@ -2,8 +2,11 @@ use Rattle.std.proofs.Common.{◌≡◌, ◌<◌, Ok, Err, length, ◌++◌, ref
 use Rattle.edge_io.specs.Reading.{NextDid, given_by, outcome_of_line}
 use Rattle.edge_io.specs.declared.line.Line.TheVariants.{End}
 use Rattle.edge_io.proofs.Readings.{line_is_one}
+use Rattle.stream_report.specs.declared.ending.Ending.TheVariants.{Memory, WriteFault}
+use Rattle.stream_report.specs.Ends.{Streamed}
 use Rattle.stream_report.proofs.Serving.{nothing_done, serves_first, serves_flushed, serves_told}
 use Rattle.stream_report.proofs.Serving.{flush_failed, memory_failed, was_waiting, stops, finishes}
+use Rattle.stream_report.proofs.WholeReports.{streamed, cut_off, stopped_is_cut}
 use Rattle.stream_report.proofs.running.report_stream.Goals as goal
 
 pub returns-in-Err-clause-ends : goal.returns-in-Err-clause-ends
@@ -14,6 +17,14 @@ pub returns-in-Err-open-clause-ends : goal.returns-in-Err-open-clause-ends
 returns-in-Err-open-clause-ends g c =
     λ first stands. nothing_done (g.R.Reporter.manner (g.R.Reporter.task c.args.reporter.now)) first
     _
+
+pub returns-in-Err-clause-stands : goal.returns-in-Err-clause-stands
+returns-in-Err-clause-stands g c = λ first stands.
+    cut_off _ _ _ Memory _ _ tt (returns-in-Err-clause-ends g c first stands)
+
+pub returns-in-Err-open-clause-stands : goal.returns-in-Err-open-clause-stands
+returns-in-Err-open-clause-stands g c = λ first stands.
+    cut_off _ _ _ Memory _ _ tt (returns-in-Err-open-clause-ends g c first stands)
 
 pub loop-gathered-init : goal.loop-gathered-init
 loop-gathered-init g c = record {
@@ -36,6 +47,10 @@ returns-in-Err-flush-clause-ends g c =
     λ first stands. flush_failed _ _ _ _ _ _ _ _ _ _ (c.loop-gathered.invariant.serves first stands)
     _ _ _ _ _ _ _ c.in-Err-flush.ensures.flushes
 
+pub returns-in-Err-flush-clause-stands : goal.returns-in-Err-flush-clause-stands
+returns-in-Err-flush-clause-stands g c = λ first stands.
+    cut_off _ _ _ WriteFault _ _ tt (returns-in-Err-flush-clause-ends g c first stands)
+
 pub returns-in-Err-next-clause-ends : goal.returns-in-Err-next-clause-ends
 returns-in-Err-next-clause-ends g c =
     let before = g.S.Source.left c.loop-gathered.input in
@@ -54,8 +69,14 @@ returns-in-Err-next-clause-ends g c =
     stops _ _ _ _ _ _ _ _ _ _ serves _ _ _ _ c.in-Err-next.end now new
     (c.in_default-flush.ensures.flushes.emptied waits) did)
 
-pub returns-in-End-clause-ends : goal.returns-in-End-clause-ends
-returns-in-End-clause-ends g c =
+pub returns-in-Err-next-clause-stands : goal.returns-in-Err-next-clause-stands
+returns-in-Err-next-clause-stands g c = λ first stands.
+    cut_off _ _ _ c.stopped.result _ _
+    (stopped_is_cut c.stopped.result c.in-Err-next.end c.stopped.ensures)
+    (returns-in-Err-next-clause-ends g c first stands)
+
+pub returns-in-End-clause-stands : goal.returns-in-End-clause-stands
+returns-in-End-clause-stands g c =
     let before = g.S.Source.left c.loop-gathered.input in
     let now = g.S.Source.left c.next.new.src in
     let old = c.is_waiting-is_waiting.new.self in
@@ -72,6 +93,10 @@ returns-in-End-clause-ends g c =
     finishes _ _ _ _ _ _ _ _ _ _ serves _ _ _ _ c.finish.result now (g.K.Sink.got c.finish.new.out)
     new last
     (rw (← c.loop-gathered.invariant.same) c.finish.ensures.ends)
+
+pub returns-in-End-clause-ends : goal.returns-in-End-clause-ends
+returns-in-End-clause-ends g c = λ first stands.
+    streamed _ _ _ c.finish.result _ _ (returns-in-End-clause-stands g c first stands)
 
 pub loop-gathered-preserved : goal.loop-gathered-preserved
 loop-gathered-preserved g c =
@@ -112,12 +137,15 @@ returns-in-Err-report g c =
     subst (λ r. NextDid r new before now (Ok c.in-Ok-next.line))
     c.is_waiting-is_waiting.ensures.same
     (subst (NextDid old new before now) c.in-Ok-next.is c.next.follows.holds-at-none) in
+    let ends : (first : g.R.Reporter.State) → g.R.Reporter.stands c.args.reporter.now first
+    → Streamed Memory (g.R.Reporter.manner (g.R.Reporter.task c.args.reporter.now)) first _ _ =
+    λ first stands.
+    let serves = serves_flushed _ _ _ _ _ _ _ _ _ _
+    (c.loop-gathered.invariant.serves first stands) _ _ _ c.in_default-flush.ensures.flushes in
+    memory_failed _ _ _ _ _ _ _ _ _ _ serves _ _ _ _ now new _ did.reads did.within
+    did.ended_within in
     record {
-      ends = λ first stands.
-          let serves = serves_flushed _ _ _ _ _ _ _ _ _ _
-          (c.loop-gathered.invariant.serves first stands) _ _ _
-          c.in_default-flush.ensures.flushes in
-          memory_failed _ _ _ _ _ _ _ _ _ _ serves _ _ _ _ now new _ did.reads did.within
-          did.ended_within;
+      ends = ends;
+      stands = λ first stands. cut_off _ _ _ Memory _ _ tt (ends first stands);
       fault = record {};
     }
