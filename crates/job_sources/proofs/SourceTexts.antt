@@ -10,6 +10,7 @@ use Rattle.edge_io.specs.Held.{Store, IsFetched, Lacks}
 use Rattle.short_names.specs.declared.ShortName.{ShortName}
 use Rattle.tcq_reader.specs.declared.faults.QueryKind.{QueryKind}
 use Rattle.tcq_reader.specs.Reading.{SaysQueries}
+use Rattle.monitor_core.specs.Setting.{Setting}
 use Rattle.stream_report.specs.declared.ending.Ending.{Ending}
 use Rattle.stream_report.specs.declared.ending.Ending.TheVariants.{Done, Usage, Refused, ReadFault}
 use Rattle.stream_report.specs.declared.ending.Ending.TheVariants.{WriteFault, Memory, StreamLimit}
@@ -17,14 +18,15 @@ use Rattle.stream_report.specs.Outside.{FilesTold}
 use Rattle.job_sources.specs.declared.refusal.Refusal.{Refusal}
 use Rattle.job_sources.specs.declared.refusal.Refusal.TheVariants.{BadOntology, TooManyRewritings}
 use Rattle.job_sources.specs.declared.refusal.Refusal.TheVariants.{BadDocument, BadQueries}
-use Rattle.job_sources.specs.declared.refusal.Refusal.TheVariants.{NotALeaf}
+use Rattle.job_sources.specs.declared.refusal.Refusal.TheVariants.{NotALeaf, BadCheckpoint}
+use Rattle.job_sources.specs.declared.refusal.Refusal.TheVariants.{OtherSources}
 use Rattle.job_sources.specs.FileNames.{FileNames}
 use Rattle.job_sources.specs.OntologyForms.{SaysAs, IsFaultyAs}
 use Rattle.job_sources.specs.Opening.{HasText}
 use Rattle.job_sources.specs.Sources.{IsFetchRefused, IsOntologyAtFault, AreQueriesAtFault}
-use Rattle.job_sources.specs.Sources.{FilesSay, FilesUnread, TextsUnread}
-use Rattle.job_sources.proofs.Texts.{Fetched, fetched, said_there, faulty_there, queries_there}
-use Rattle.job_sources.proofs.Texts.{fault_there}
+use Rattle.job_sources.specs.Sources.{FilesSay, FileTextsSay, FilesUnread, TextsUnread}
+use Rattle.job_sources.proofs.Texts.{Fetched, fetched, said_there, faulty_there, fault_there}
+use Rattle.job_sources.proofs.Texts.{whole_text, whole_queries}
 
 -- ---- files
 
@@ -37,6 +39,16 @@ never_leaf : (owl : Bool) (text : List ℕ) (leaf : ShortName)
     → ¬ IsFaultyAs owl text (NotALeaf leaf)
 never_leaf true text leaf fault = fault
 never_leaf false text leaf fault = fault
+
+never_checkpoint : (owl : Bool) (text : List ℕ) (number : ℕ)
+    → ¬ IsFaultyAs owl text (BadCheckpoint number)
+never_checkpoint true text number fault = fault
+never_checkpoint false text number fault = fault
+
+never_other : (owl : Bool) (text found wanted : List ℕ)
+    → ¬ IsFaultyAs owl text (OtherSources found wanted)
+never_other true text found wanted fault = fault
+never_other false text found wanted fault = fault
 
 never_queries : (owl : Bool) (text : List ℕ) (line : ℕ) (kind : QueryKind)
     → ¬ IsFaultyAs owl text (BadQueries line kind)
@@ -55,6 +67,10 @@ faulty_file before now names text TooManyRewritings has fault =
     absurd (never_many names.owl text fault)
 faulty_file before now names text (NotALeaf leaf) has fault =
     absurd (never_leaf names.owl text leaf fault)
+faulty_file before now names text (BadCheckpoint number) has fault =
+    absurd (never_checkpoint names.owl text number fault)
+faulty_file before now names text (OtherSources found wanted) has fault =
+    absurd (never_other names.owl text found wanted fault)
 faulty_file before now names text (BadQueries line kind) has fault =
     absurd (never_queries names.owl text line kind fault)
 
@@ -153,23 +169,47 @@ fetched_both held later names ontology ontology_bytes ontology_read bytes read o
           (subst (λ (h : Option Store). IsFetched h names.queries 4194304 bytes) stays other);
     }
 
-pub both_say : (held : Option Store) (names : FileNames) (ontology : Declared) (text : List ℕ)
-    (said : List Tcq) → FetchedBoth held names ontology text → SaysQueries ontology text said
-    → FilesSay held names (record { ontology = ontology; queries = said })
-both_say held names ontology text said both says =
-    let one : Fetched held names.ontology both.ontology_bytes =
-    fetched held names.ontology both.ontology_bytes both.ontology_fetched in
-    let other : Fetched held names.queries text =
-    fetched held names.queries text both.queries_fetched in
+-- the texts that say this were fetched whole
+pub texts_say : (held later : Option Store) (names : FileNames) (ontology : Declared)
+    (said : List Tcq) (ontology_bytes ontology_read bytes read : List ℕ)
+    → IsFetched held names.ontology 4194304 ontology_bytes → ontology_read ≡ ontology_bytes
+    → SaysAs names.owl ontology_read ontology → later ≡ held
+    → IsFetched later names.queries 4194304 bytes → read ≡ bytes → SaysQueries ontology read said
+    → FileTextsSay held names ontology_bytes bytes
+    (record { ontology = ontology; queries = said })
+texts_say held later names ontology said ontology_bytes ontology_read bytes read one same says stays
+    other is say =
+    let first : Fetched held names.ontology ontology_bytes =
+    fetched held names.ontology ontology_bytes one in
+    let second : Fetched held names.queries bytes =
+    fetched held names.queries bytes
+    (subst (λ (h : Option Store). IsFetched h names.queries 4194304 bytes) stays other) in
+    let ontology_says : SaysAs names.owl ontology_bytes ontology =
+    subst (λ (t : List ℕ). SaysAs names.owl t ontology) same says in
+    let queries_say : SaysQueries ontology bytes said =
+    subst (λ (t : List ℕ). SaysQueries ontology t said) is say in
     record {
-      ontology = one.text;
-      ontology_is = one.has;
-      ontology_says = said_there names.owl one.text both.ontology_bytes ontology one.cut
-          both.ontology_says;
-      queries = other.text;
-      queries_is = other.has;
-      queries_say = queries_there ontology other.text text said other.cut says;
+      ontology_has = subst (HasText held names.ontology)
+          (whole_text names.owl first.text ontology_bytes ontology first.cut ontology_says)
+          first.has;
+      ontology_says = ontology_says;
+      queries_have = subst (HasText held names.queries)
+          (whole_queries ontology second.text bytes said second.cut queries_say) second.has;
+      queries_say = queries_say;
     }
+
+-- so the files say it
+pub files_say : (held : Option Store) (names : FileNames) (ontology queries : List ℕ)
+    (setting : Setting) → FileTextsSay held names ontology queries setting
+    → FilesSay held names setting
+files_say held names ontology queries setting say = record {
+  ontology = ontology;
+  ontology_is = say.ontology_has;
+  ontology_says = say.ontology_says;
+  queries = queries;
+  queries_is = say.queries_have;
+  queries_say = say.queries_say;
+}
 
 pub queries_fault : (before now : FilesTold) (names : FileNames) (ontology : Declared)
     (text : List ℕ) (ending : Ending Refusal) → FetchedBoth before.held names ontology text
@@ -193,6 +233,10 @@ queries_fault before now names ontology text (Refused (BadQueries line kind)) bo
     }
 queries_fault before now names ontology text (Refused TooManyRewritings) both fault = absurd fault
 queries_fault before now names ontology text (Refused (NotALeaf leaf)) both fault = absurd fault
+queries_fault before now names ontology text (Refused (BadCheckpoint number)) both fault =
+    absurd fault
+queries_fault before now names ontology text (Refused (OtherSources found wanted)) both fault =
+    absurd fault
 queries_fault before now names ontology text (Refused (BadOntology line kind)) both fault =
     absurd fault
 queries_fault before now names ontology text (Refused (BadDocument line kind)) both fault =
@@ -214,6 +258,8 @@ module _ (ontology queries : List ℕ) where
   ontology_refused (Refused (BadDocument line kind)) fault = absurd fault
   ontology_refused (Refused TooManyRewritings) fault = absurd fault
   ontology_refused (Refused (NotALeaf leaf)) fault = absurd fault
+  ontology_refused (Refused (BadCheckpoint number)) fault = absurd fault
+  ontology_refused (Refused (OtherSources found wanted)) fault = absurd fault
   ontology_refused (Refused (BadQueries line kind)) fault = absurd fault
   ontology_refused Memory fault = tt
   ontology_refused Done fault = absurd fault
@@ -235,6 +281,8 @@ module _ (ontology queries : List ℕ) where
       }
   queries_refused said (Refused TooManyRewritings) says fault = absurd fault
   queries_refused said (Refused (NotALeaf leaf)) says fault = absurd fault
+  queries_refused said (Refused (BadCheckpoint number)) says fault = absurd fault
+  queries_refused said (Refused (OtherSources found wanted)) says fault = absurd fault
   queries_refused said (Refused (BadOntology line kind)) says fault = absurd fault
   queries_refused said (Refused (BadDocument line kind)) says fault = absurd fault
   queries_refused said Memory says fault = tt

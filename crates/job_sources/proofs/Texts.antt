@@ -18,6 +18,7 @@ use Rattle.tcq_reader.specs.Reading.{SaysQueries, IsFault}
 use Rattle.job_sources.specs.declared.refusal.Refusal.{Refusal}
 use Rattle.job_sources.specs.declared.refusal.Refusal.TheVariants.{BadOntology, BadDocument}
 use Rattle.job_sources.specs.declared.refusal.Refusal.TheVariants.{BadQueries, NotALeaf}
+use Rattle.job_sources.specs.declared.refusal.Refusal.TheVariants.{BadCheckpoint, OtherSources}
 use Rattle.job_sources.specs.declared.refusal.Refusal.TheVariants.{TooManyRewritings}
 use Rattle.job_sources.specs.OntologyForms.{SaysAs, IsFaultyAs}
 use Rattle.job_sources.specs.Opening.{HasText}
@@ -81,18 +82,29 @@ faulty_there true text bytes (BadOntology line kind) cut fault = absurd fault
 faulty_there true text bytes TooManyRewritings cut fault = absurd fault
 faulty_there true text bytes (BadQueries line kind) cut fault = absurd fault
 faulty_there true text bytes (NotALeaf name) cut fault = absurd fault
+faulty_there true text bytes (BadCheckpoint number) cut fault = absurd fault
+faulty_there true text bytes (OtherSources found wanted) cut fault = absurd fault
 faulty_there false text bytes (BadOntology line kind) cut fault = same_lines text bytes cut ∙ fault
 faulty_there false text bytes (BadDocument line kind) cut fault = absurd fault
 faulty_there false text bytes TooManyRewritings cut fault = absurd fault
 faulty_there false text bytes (BadQueries line kind) cut fault = absurd fault
 faulty_there false text bytes (NotALeaf name) cut fault = absurd fault
+faulty_there false text bytes (BadCheckpoint number) cut fault = absurd fault
+faulty_there false text bytes (OtherSources found wanted) cut fault = absurd fault
 
-pub queries_there : (ontology : Declared) (text bytes : List ℕ) (queries : List Tcq)
-    → Cut 4194304 text bytes → SaysQueries ontology bytes queries
-    → SaysQueries ontology text queries
-queries_there ontology text bytes queries (inl same) says =
-    subst (λ (t : List ℕ). SaysQueries ontology t queries) (sym same) says
-queries_there ontology text bytes queries (inr long) says = let short : length bytes ≤ 4194304 =
+-- a text without a fault is not cut
+pub whole_text : (owl : Bool) (text bytes : List ℕ) (ontology : Declared) → Cut 4194304 text bytes
+    → SaysAs owl bytes ontology → text ≡ bytes
+whole_text owl text bytes ontology (inl same) says = same
+whole_text true text bytes ontology (inr long) says =
+    let fails = long_says bytes long.1 in cc
+whole_text false text bytes ontology (inr long) says =
+    let fails = too_long bytes long.1 in cc
+
+pub whole_queries : (ontology : Declared) (text bytes : List ℕ) (queries : List Tcq)
+    → Cut 4194304 text bytes → SaysQueries ontology bytes queries → text ≡ bytes
+whole_queries ontology text bytes queries (inl same) says = same
+whole_queries ontology text bytes queries (inr long) says = let short : length bytes ≤ 4194304 =
     says.short in absurd (omega (arith, long.1))
 
 pub fault_there : (ontology : Declared) (text bytes : List ℕ) (line : ℕ) (kind : QueryKind)

@@ -17,7 +17,8 @@ use Rattle.stream_report.specs.Outside.{FilesTold}
 use Rattle.job_sources.specs.declared.refusal.Refusal.{Refusal}
 use Rattle.job_sources.specs.declared.refusal.Refusal.TheVariants.{BadOntology, TooManyRewritings}
 use Rattle.job_sources.specs.declared.refusal.Refusal.TheVariants.{BadDocument, BadQueries}
-use Rattle.job_sources.specs.declared.refusal.Refusal.TheVariants.{NotALeaf}
+use Rattle.job_sources.specs.declared.refusal.Refusal.TheVariants.{NotALeaf, BadCheckpoint}
+use Rattle.job_sources.specs.declared.refusal.Refusal.TheVariants.{OtherSources}
 use Rattle.job_sources.specs.FileNames.{FileNames}
 use Rattle.job_sources.specs.OntologyForms.{SaysAs, IsFaultyAs}
 use Rattle.job_sources.specs.Opening.{HasText, Is}
@@ -68,6 +69,8 @@ AreFaulty owl is_ontology is_queries (BadQueries line kind) =
     HasQueriesFault owl is_ontology is_queries line kind
 AreFaulty owl is_ontology is_queries TooManyRewritings = ⊥
 AreFaulty owl is_ontology is_queries (NotALeaf name) = ⊥
+AreFaulty owl is_ontology is_queries (BadCheckpoint number) = ⊥
+AreFaulty owl is_ontology is_queries (OtherSources found wanted) = ⊥
 
 -- ---- what a job takes of what they say
 
@@ -110,6 +113,14 @@ OpeningFails own says unread ending =
 abbrev pub FilesSay : Option Store → FileNames → Setting → Type 0
 FilesSay held names setting =
     Says names.owl (HasText held names.ontology) (HasText held names.queries) setting
+
+-- the files of these names have these texts, which say this
+pub record FileTextsSay (held : Option Store) (names : FileNames) (ontology queries : List ℕ)
+    (setting : Setting) : Type 0 where
+  pub ontology_has : HasText held names.ontology ontology
+  pub ontology_says : SaysAs names.owl ontology setting.ontology
+  pub queries_have : HasText held names.queries queries
+  pub queries_say : SaysQueries setting.ontology queries setting.queries
 
 -- a file wasn't fetched. The queries' file counts only after an ontology without a fault
 abbrev pub IsUnfetched : FilesTold → FilesTold → FileNames → Type 0

@@ -8,6 +8,6 @@ mod refusal;
 mod sources;
 
 pub use names::Names;
-pub use opening::{REWRITING_LIMIT, open_files, open_texts};
+pub use opening::{OpenedTexts, REWRITING_LIMIT, open_files, open_texts, open_with_texts};
 pub use refusal::Refusal;
-pub use sources::{Sources, read_sources, read_texts};
+pub use sources::{FetchedSources, Sources, read_source_texts, read_sources, read_texts};

@@ -10,16 +10,25 @@ ghost use Rattle.job_sources.specs.FileNames.{file_names};
 ghost use Rattle.job_sources.specs.Opening.{Is};
 ghost use Rattle.job_sources.specs.Sources.{AreTooMany};
 ghost use Rattle.job_sources.specs.Sayings.{setting_in};
-ghost use Rattle.job_sources.specs.Sources.{Says, FilesSay, FilesUnread, TextsUnread};
+ghost use Rattle.job_sources.specs.Sources.{Says, FilesSay, FileTextsSay, FilesUnread};
+ghost use Rattle.job_sources.specs.Sources.{TextsUnread};
 ghost use Rattle.job_sources.specs.Sources.{nothing_more, IsRefused, OpeningFails, Opened};
 
 use crate::names::Names;
 use crate::refusal::Refusal;
-use crate::sources::{Sources, read_sources, read_texts};
+use crate::sources::{FetchedSources, Sources, read_source_texts, read_sources, read_texts};
 use edge_io::Files;
 use monitor_core::{Monitor, OpenFault};
 use std::alloc::Global;
 use stream_report::Ending;
+
+/// A monitor, before any snapshot and any name, and the texts of its ontology and its queries.
+#[derive(Drop)]
+pub struct OpenedTexts {
+    pub ontology: Vec<u8>,
+    pub queries: Vec<u8>,
+    pub monitor: Monitor,
+}
 
 /// The most queries that leaves and clashes may reach.
 pub const REWRITING_LIMIT: u32 = 1_048_576;
@@ -62,6 +71,43 @@ pub fn open_files<F: Files>(
     };
     match monitor_of(alloc, sources) {
         Ok(monitor) => Ok(monitor),
+        Err(ending) => Err(ending),
+    }
+}
+
+/// The monitor of the files of these names, before any snapshot and any name, and their texts; or
+/// how the run ends.
+pub fn open_with_texts<F: Files>(
+    alloc: Global,
+    files: &mut F,
+    names: Names<'_>,
+) -> Result<OpenedTexts, Ending<Refusal>>
+    ensures opens { IfOk result (λ opened. Opened (FileTextsSay (F.held files.old)
+        (file_names names.entry) opened.ontology.items opened.queries.items) opened.monitor) }
+    ensures refuses { IfErr result (OpeningFails nothing_more
+        (FilesSay (F.held files.old) (file_names names.entry))
+        (FilesUnread (files_told F.Files files.old) (files_told F.Files files.new)
+        (file_names names.entry))) }
+    ensures held { F.held files.new ≡ F.held files.old }
+    ensures stays { OnOk result (files_told F.Files files.new ≡ files_told F.Files files.old) }
+    ensures stay { IfErr result (λ ending.
+        FilesStay ending (files_told F.Files files.old) (files_told F.Files files.new)) }
+{
+    let read = match read_source_texts(alloc, files, names) {
+        Ok(read) => read,
+        Err(ending) => return Err(ending),
+    };
+    let FetchedSources {
+        ontology,
+        queries,
+        sources,
+    } = read;
+    match monitor_of(alloc, sources) {
+        Ok(monitor) => Ok(OpenedTexts {
+            ontology,
+            queries,
+            monitor,
+        }),
         Err(ending) => Err(ending),
     }
 }

@@ -18,4 +18,8 @@ pub enum Refusal {
     BadQueries(u64, QueryKind),
     /// The first query whose root is no leaf that names all its answer variables.
     NotALeaf(ShortName),
+    /// The first line of the checkpoint that may not stand there.
+    BadCheckpoint(u64),
+    /// The checkpoint is for other sources: the digest that it names, and that of the sources.
+    OtherSources { found: [u8; 32], wanted: [u8; 32] },
 }

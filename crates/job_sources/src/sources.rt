@@ -11,7 +11,8 @@ ghost use Rattle.job_sources.specs.Sayings.{setting_in};
 ghost use Rattle.job_sources.specs.OntologyForms.{SaysAs};
 ghost use Rattle.job_sources.specs.Opening.{Is};
 ghost use Rattle.job_sources.specs.Sources.{IsOntologyAtFault, AreQueriesAtFault, IsFetchRefused};
-ghost use Rattle.job_sources.specs.Sources.{Says, FilesSay, FilesUnread, TextsUnread};
+ghost use Rattle.job_sources.specs.Sources.{Says, FilesSay, FileTextsSay, FilesUnread};
+ghost use Rattle.job_sources.specs.Sources.{TextsUnread};
 ghost use Rattle.stream_report.specs.Outside.{files_told};
 
 use crate::names::Names;
@@ -30,6 +31,14 @@ use tcq_syntax::Query;
 pub struct Sources {
     pub ontology: Ontology,
     pub queries: Vec<Query>,
+}
+
+/// The texts of an ontology and of queries, and what they say.
+#[derive(Drop)]
+pub struct FetchedSources {
+    pub ontology: Vec<u8>,
+    pub queries: Vec<u8>,
+    pub sources: Sources,
 }
 
 /// How many bytes of a file are fetched, but for one.
@@ -108,6 +117,47 @@ fn queries_of(
     }
 }
 
+/// The texts of the files of these names and what they say, or how the run ends.
+pub fn read_source_texts<F: Files>(
+    alloc: Global,
+    files: &mut F,
+    names: Names<'_>,
+) -> Result<FetchedSources, Ending<Refusal>>
+    ensures say { IfOk result (λ read.
+        FileTextsSay (F.held files.old) (file_names names.entry) read.ontology.items
+        read.queries.items (setting_in read.sources)) }
+    ensures within { IfOk result (λ read.
+        AreWithin read.sources.ontology read.sources.queries.items) }
+    ensures spelled { IfOk result (λ read. AreSpelled read.sources.queries.items) }
+    ensures refuses { IfErr result (FilesUnread (files_told F.Files files.old)
+        (files_told F.Files files.new) (file_names names.entry)) }
+    ensures held { F.held files.new ≡ F.held files.old }
+    ensures stays { OnOk result (files_told F.Files files.new ≡ files_told F.Files files.old) }
+    ensures stay { IfErr result (λ ending.
+        FilesStay ending (files_told F.Files files.old) (files_told F.Files files.new)) }
+{
+    let text = match fetch(alloc, files, names.ontology) {
+        Ok(text) => text,
+        Err(ending) => return Err(ending),
+    };
+    let ontology = match ontology_of(alloc, names.owl, &text) {
+        Ok(ontology) => ontology,
+        Err(ending) => return Err(ending),
+    };
+    let asked = match fetch(alloc, files, names.queries) {
+        Ok(asked) => asked,
+        Err(ending) => return Err(ending),
+    };
+    match queries_of(alloc, &asked, &ontology) {
+        Ok(queries) => Ok(FetchedSources {
+            ontology: text,
+            queries: asked,
+            sources: Sources { ontology, queries },
+        }),
+        Err(ending) => Err(ending),
+    }
+}
+
 /// What the files of these names say, or how the run ends.
 pub fn read_sources<F: Files>(
     alloc: Global,
@@ -125,20 +175,8 @@ pub fn read_sources<F: Files>(
     ensures stay { IfErr result (λ ending.
         FilesStay ending (files_told F.Files files.old) (files_told F.Files files.new)) }
 {
-    let text = match fetch(alloc, files, names.ontology) {
-        Ok(text) => text,
-        Err(ending) => return Err(ending),
-    };
-    let ontology = match ontology_of(alloc, names.owl, &text) {
-        Ok(ontology) => ontology,
-        Err(ending) => return Err(ending),
-    };
-    let text = match fetch(alloc, files, names.queries) {
-        Ok(text) => text,
-        Err(ending) => return Err(ending),
-    };
-    match queries_of(alloc, &text, &ontology) {
-        Ok(queries) => Ok(Sources { ontology, queries }),
+    match read_source_texts(alloc, files, names) {
+        Ok(FetchedSources { sources, .. }) => Ok(sources),
         Err(ending) => Err(ending),
     }
 }

@@ -1,5 +1,6 @@
 -- How a run ends.
 use Rattle.std.specs.Prelude.{ℕ, List, ◌++◌, [], codes, decimal}
+use Rattle.hex.specs.Hex.{encode_lower}
 use Rattle.ontology_reader.specs.declared.OntologyKind.{OntologyKind}
 use Rattle.ontology_reader.specs.declared.OntologyKind.TheVariants as kind
 use Rattle.tcq_reader.specs.declared.faults.QueryKind.{QueryKind}
@@ -10,7 +11,8 @@ use Rattle.stream_report.specs.declared.ending.Ending.TheVariants.{WriteFault, M
 use Rattle.job_sources.specs.declared.refusal.Refusal.{Refusal}
 use Rattle.job_sources.specs.declared.refusal.Refusal.TheVariants.{BadOntology, TooManyRewritings}
 use Rattle.job_sources.specs.declared.refusal.Refusal.TheVariants.{BadDocument, BadQueries}
-use Rattle.job_sources.specs.declared.refusal.Refusal.TheVariants.{NotALeaf}
+use Rattle.job_sources.specs.declared.refusal.Refusal.TheVariants.{NotALeaf, BadCheckpoint}
+use Rattle.job_sources.specs.declared.refusal.Refusal.TheVariants.{OtherSources}
 use Rattle.owl_reader.specs.declared.reading.OwlKind.{OwlKind}
 use Rattle.owl_reader.specs.declared.reading.OwlKind.TheVariants as document_kind
 use Rattle.monitor_run.specs.declared.status.Status.{Status}
@@ -24,6 +26,8 @@ status_of_refusal (BadDocument line kind) = status.BadOntology
 status_of_refusal TooManyRewritings = status.BadOntology
 status_of_refusal (BadQueries line kind) = status.BadQueries
 status_of_refusal (NotALeaf name) = status.BadQueries
+status_of_refusal (BadCheckpoint line) = status.BadCheckpoint
+status_of_refusal (OtherSources found wanted) = status.BadCheckpoint
 
 abbrev pub status_of : Ending Refusal → Status
 status_of Done = status.Done
@@ -72,6 +76,9 @@ refusal_text TooManyRewritings = codes "ontology: too-many-rewritings"
 refusal_text (BadQueries line kind) =
     codes "queries line " ++ decimal line ++ codes ": " ++ query_kind_text kind
 refusal_text (NotALeaf name) = codes "queries: not-a-leaf " ++ name_in name
+refusal_text (BadCheckpoint line) = codes "checkpoint line " ++ decimal line ++ codes ": bad"
+refusal_text (OtherSources found wanted) =
+    codes "checkpoint: other-sources " ++ encode_lower found ++ codes " " ++ encode_lower wanted
 
 -- what is said of an ending that is said
 abbrev pub message_of : Ending Refusal → List ℕ

@@ -131,6 +131,8 @@ fn refusal_status(refusal: Refusal) -> Status
         Refusal::TooManyRewritings => Status::BadOntology,
         Refusal::BadQueries(_, _) => Status::BadQueries,
         Refusal::NotALeaf(_) => Status::BadQueries,
+        Refusal::BadCheckpoint(_) => Status::BadCheckpoint,
+        Refusal::OtherSources { .. } => Status::BadCheckpoint,
     }
 }
 

@@ -5,6 +5,7 @@ ghost use Rattle.arrayvec.specs.ArrayVec.{array_vec_len};
 ghost use Rattle.monitor_run.specs.Ends.{document_kind_text, kind_text, query_kind_text, line_of};
 
 use arrayvec::ArrayVec;
+use checkpoint_text::digest_text;
 use itoa::Buffer;
 use job_sources::Refusal;
 use ontology_reader::OntologyKind;
@@ -146,6 +147,30 @@ fn put_no_leaf(out: &mut ArrayVec<u8, 256>, name: ShortName)
     put(out, b"\n");
 }
 
+/// The line of a checkpoint's fault.
+fn put_checkpoint_fault(out: &mut ArrayVec<u8, 256>, line: u64)
+    requires { array_vec_len out.old ≡ 0 }
+    ensures { out.new.items ≡ out.old.items ++ line_of (Ending.Refused (Refusal.BadCheckpoint line)) }
+{
+    let mut buffer = Buffer::new();
+    put(out, b"tom: checkpoint line ");
+    put(out, buffer.format(line).as_bytes());
+    put(out, b": bad\n");
+}
+
+/// The line of a checkpoint for other sources.
+fn put_other_sources(out: &mut ArrayVec<u8, 256>, found: &[u8; 32], wanted: &[u8; 32])
+    requires { array_vec_len out.old ≡ 0 }
+    ensures { out.new.items ≡ out.old.items
+        ++ line_of (Ending.Refused (Refusal.OtherSources found.now wanted.now)) }
+{
+    put(out, b"tom: checkpoint: other-sources ");
+    put(out, digest_text(found).as_slice());
+    put(out, b" ");
+    put(out, digest_text(wanted).as_slice());
+    put(out, b"\n");
+}
+
 /// The line of a refusal.
 fn put_refusal(out: &mut ArrayVec<u8, 256>, refusal: Refusal)
     requires { array_vec_len out.old ≡ 0 }
@@ -157,6 +182,8 @@ fn put_refusal(out: &mut ArrayVec<u8, 256>, refusal: Refusal)
         Refusal::TooManyRewritings => put(out, b"tom: ontology: too-many-rewritings\n"),
         Refusal::BadQueries(line, kind) => put_query_fault(out, line, kind),
         Refusal::NotALeaf(name) => put_no_leaf(out, name),
+        Refusal::BadCheckpoint(line) => put_checkpoint_fault(out, line),
+        Refusal::OtherSources { found, wanted } => put_other_sources(out, &found, &wanted),
     }
 }
 

@@ -10,5 +10,6 @@ pub enum Status {
     ReadFault = 5,
     WriteFault = 6,
     Memory = 7,
+    BadCheckpoint = 8,
     StreamLimit = 9,
 }

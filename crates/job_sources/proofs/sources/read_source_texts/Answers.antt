@@ -4,9 +4,9 @@ use Rattle.tcq_reader.proofs.WithinLemmas.{said_are_within}
 use Rattle.stream_report.specs.Outside.{files_told}
 use Rattle.job_sources.specs.FileNames.{file_names}
 use Rattle.job_sources.proofs.SourceTexts.{ontology_fault, ontology_unfetched, queries_unfetched}
-use Rattle.job_sources.proofs.SourceTexts.{fetched_both, both_say, queries_fault}
+use Rattle.job_sources.proofs.SourceTexts.{fetched_both, texts_say, queries_fault}
 use Rattle.job_sources.proofs.Staying.{stay_whole, stay_unfetched, stay_after}
-use Rattle.job_sources.proofs.sources.read_sources.Goals as goal
+use Rattle.job_sources.proofs.sources.read_source_texts.Goals as goal
 
 pub returns-in-Err-clause-refuses : goal.returns-in-Err-clause-refuses
 returns-in-Err-clause-refuses g c =
@@ -31,14 +31,11 @@ returns-in-Err-fetch-clause-refuses g c =
 
 pub returns-in-Ok-queries_of-clause-say : goal.returns-in-Ok-queries_of-clause-say
 returns-in-Ok-queries_of-clause-say g c =
-    let both = fetched_both (g.F.Files.held c.args.files.now) (g.F.Files.held c.fetch.new.files)
-    (file_names c.args.names) c.in-Ok-ontology_of.ontology c.in-Ok.text.items c.deref.result.now
-    c.in-Ok-fetch.text.items c.deref-2.result.now
+    texts_say (g.F.Files.held c.args.files.now) (g.F.Files.held c.fetch.new.files)
+    (file_names c.args.names) c.in-Ok-ontology_of.ontology c.in-Ok-queries_of.queries.items
+    c.in-Ok.text.items c.deref.result.now c.in-Ok-fetch.asked.items c.deref-2.result.now
     c.in-Ok.ensures.bytes c.deref.ensures.value c.in-Ok-ontology_of.ensures c.fetch.ensures.held
-    c.in-Ok-fetch.ensures.bytes c.deref-2.ensures.value in
-    both_say (g.F.Files.held c.args.files.now) (file_names c.args.names)
-    c.in-Ok-ontology_of.ontology c.deref-2.result.now c.in-Ok-queries_of.queries.items both
-    c.in-Ok-queries_of.ensures
+    c.in-Ok-fetch.ensures.bytes c.deref-2.ensures.value c.in-Ok-queries_of.ensures
 
 pub returns-in-Ok-queries_of-clause-within : goal.returns-in-Ok-queries_of-clause-within
 returns-in-Ok-queries_of-clause-within g c =
@@ -50,11 +47,11 @@ returns-in-Ok-queries_of-clause-spelled g c =
     said_are_named c.in-Ok-ontology_of.ontology c.deref-2.result.now
     c.in-Ok-queries_of.queries.items c.in-Ok-queries_of.ensures
 
-pub returns-clause-refuses : goal.returns-clause-refuses
-returns-clause-refuses g c =
+pub returns-in-Err-queries_of-clause-refuses : goal.returns-in-Err-queries_of-clause-refuses
+returns-in-Err-queries_of-clause-refuses g c =
     let both = fetched_both (g.F.Files.held c.args.files.now) (g.F.Files.held c.fetch.new.files)
     (file_names c.args.names) c.in-Ok-ontology_of.ontology c.in-Ok.text.items c.deref.result.now
-    c.in-Ok-fetch.text.items c.deref-2.result.now
+    c.in-Ok-fetch.asked.items c.deref-2.result.now
     c.in-Ok.ensures.bytes c.deref.ensures.value c.in-Ok-ontology_of.ensures c.fetch.ensures.held
     c.in-Ok-fetch.ensures.bytes c.deref-2.ensures.value in
     queries_fault (files_told g.F.Files c.args.files.now) (files_told g.F.Files c.fetch-2.new.files)
@@ -85,8 +82,8 @@ pub returns-in-Ok-queries_of-clause-stays : goal.returns-in-Ok-queries_of-clause
 returns-in-Ok-queries_of-clause-stays g c =
     c.in-Ok-fetch.ensures.stays ∙ c.in-Ok.ensures.stays
 
-pub returns-clause-stay : goal.returns-clause-stay
-returns-clause-stay g c =
+pub returns-in-Err-queries_of-clause-stay : goal.returns-in-Err-queries_of-clause-stay
+returns-in-Err-queries_of-clause-stay g c =
     stay_whole c.in-Err-queries_of.ending (files_told g.F.Files c.args.files.now)
     (files_told g.F.Files c.fetch-2.new.files)
     (c.in-Ok-fetch.ensures.stays ∙ c.in-Ok.ensures.stays)
