@@ -6,7 +6,11 @@ mod Sizes
 mod Spelled
 mod MadeStream
 mod ReplyLaws
-mod Arrivals
+mod MonitorReplies
+pub mod StoodFor
+mod RehearsedLines
+mod Renumbering
+mod LastMonitors
 mod HistoryLaws
 mod Rehearsals
 pub mod OneReport

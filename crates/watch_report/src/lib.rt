@@ -11,4 +11,4 @@ mod watching;
 
 pub use drilling::drill;
 pub use options::Options;
-pub use watching::watch_files;
+pub use watching::{watch, watch_files};
