@@ -1,2 +1,6 @@
-//! stub
+//! Suspending and resuming (a stand-in with the contracts alone).
 #![tactic(auto)]
+
+mod states;
+
+pub use states::{resume, suspend};
