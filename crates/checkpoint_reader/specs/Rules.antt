@@ -1,6 +1,6 @@
 -- Which line may come next in a checkpoint, after the lines before it.
 use Rattle.std.specs.Prelude.{◌≡◌, ◌⊎◌, ◌+◌, ℕ, zero, suc, ◌<◌, ◌≤◌, ◌^◌, nat_eq, if◌then◌else◌, Bool}
-use Rattle.std.specs.Prelude.{true, false, Unit, Option, Some, None, List, [], ◌∷◌, ◌++◌, length, map}
+use Rattle.std.specs.Prelude.{true, false, Option, Some, None, List, [], ◌∷◌, ◌++◌, length, map}
 use Rattle.std.specs.Prelude.{slice_get}
 use Rattle.std.specs.List.{All, Contains}
 use Rattle.dl_syntax.specs.Names.{IsDeclarable}
