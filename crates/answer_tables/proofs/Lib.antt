@@ -25,3 +25,4 @@ mod Listing
 mod LinkLists
 mod Rows
 pub mod Few
+pub mod CountedRuns

@@ -193,7 +193,7 @@ others_all antichain usual start (suc k) n from below =
         (others antichain usual (suc start) k))))
 
 -- tuples of consecutive numbers
-abbrev InARow : ℕ → ℕ → List (List IndId) → Type 0
+abbrev pub InARow : ℕ → ℕ → List (List IndId) → Type 0
 InARow slots start [] = Unit {0}
 InARow slots start (t ∷ ts) = (number slots t ≡ start) × InARow slots (suc start) ts
 

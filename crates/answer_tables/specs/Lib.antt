@@ -10,6 +10,7 @@ pub mod Combining
 pub mod Deciding
 pub mod Patching
 pub mod Counts
+pub mod Lengths
 pub mod Substituting
 pub mod Spreading
 pub mod Marks

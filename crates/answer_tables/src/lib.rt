@@ -7,6 +7,7 @@ mod combine;
 mod counts;
 mod holding;
 pub mod laws;
+mod lengths;
 mod links;
 mod made;
 mod marks;
