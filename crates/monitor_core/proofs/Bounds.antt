@@ -33,7 +33,7 @@ use Rattle.monitor_core.specs.Keeping.{KeepsOf, KeepsAntichain, IsStoreOf}
 
 -- the future parts of a formula whose numbers are below a limit make a number below the limit's
 -- power
-future_set-below : (limit : ℕ) (f : Formula) → EachFuture (HasNumberBelow limit) f
+pub future_set-below : (limit : ℕ) (f : Formula) → EachFuture (HasNumberBelow limit) f
     → future_set f < 2 ^ limit
 future_set-below limit True w = pow_pos limit
 future_set-below limit False w = pow_pos limit

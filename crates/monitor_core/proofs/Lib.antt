@@ -13,3 +13,4 @@ pub mod Bounds
 pub mod Sizes
 pub mod Example
 pub mod Widening
+pub mod Restoring

@@ -11,6 +11,7 @@ mod accept;
 mod accept_fault;
 mod declare;
 mod gathering;
+mod keeping;
 mod leaves;
 mod monitor;
 mod opening;
@@ -21,6 +22,7 @@ mod tests;
 
 pub use accept_fault::AcceptFault;
 pub use declaring::DeclareFault;
+pub use keeping::empty_is_unused;
 pub use monitor::Monitor;
 pub use opening::{check_reach, open, open_closed};
 pub use perfect_ref::RewriteFault as OpenFault;
