@@ -1,0 +1,9 @@
+use Rattle.std.proofs.Common.{◌≡◌, ◌∷◌, ◌++◌, take}
+use Rattle.std.specs.Prelude.{decimal, flat_map}
+use Rattle.checkpoint_text.specs.Text.{ended, lines_of_query, list_line, name_line, node_line}
+use Rattle.checkpoint_text.specs.Text.{stretch_text}
+use Rattle.checkpoint_text.proofs.writing.append_lists.Given as goal
+
+abbrev pub invariant-loop-list : goal.invariant-loop-list
+invariant-loop-list l = l.out.items ≡ l.initial.out.items
+    ++ flat_map (λ list. ended (list_line list)) (take l.list-index l.lists)
