@@ -3,7 +3,10 @@
 
 mod checkpoint;
 mod digests;
+pub mod laws;
 mod numbers;
+#[cfg(test)]
+mod tests;
 mod writing;
 
 pub use checkpoint::{Checkpoint, Node, Nodes, Stretch};

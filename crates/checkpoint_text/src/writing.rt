@@ -169,11 +169,7 @@ fn append_queries(out: &mut Vec<u8>, queries: &[Nodes]) -> Result<(), Memory>
 }
 
 /// The text of the checkpoint for the digest.
-pub fn write(
-    alloc: Global,
-    checkpoint: &Checkpoint,
-    digest: &[u8; 32],
-) -> Result<Vec<u8>, Memory>
+pub fn write(alloc: Global, checkpoint: &Checkpoint, digest: &[u8; 32]) -> Result<Vec<u8>, Memory>
     ensures { IfOk result (λ bytes. bytes.items ≡ text_of digest.now checkpoint.now) }
 {
     let mut out = Vec::new(alloc);

@@ -15,7 +15,7 @@ returns-else-eq c digest bytes long is =
     ∙ decode_sized-encode_lower digest 32 long bytes in
     let same : c.in-Ok.digest ≡ digest = cc in
     let text : c.as_slice.result.now ≡ c.args.text.now =
-        c.as_slice.ensures ∙ c.digest_text.ensures ∙ ap encode_lower same ∙ sym is in
+    c.as_slice.ensures ∙ c.digest_text.ensures ∙ ap encode_lower same ∙ sym is in
     let yes : c.eq.result ≡ true =
-        c.eq.ensures ∙ (bytes_eq-Decides c.as_slice.result.now c.args.text.now).1 text in
+    c.eq.ensures ∙ (bytes_eq-Decides c.as_slice.result.now c.args.text.now).1 text in
     cc
