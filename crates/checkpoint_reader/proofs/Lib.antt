@@ -1,0 +1,14 @@
+pub mod Coming
+pub mod Cuts
+pub mod Fronts
+pub mod Futures
+pub mod Interning
+pub mod Items
+pub mod KeptPlaces
+pub mod Orders
+pub mod PartSets
+pub mod Progressing
+pub mod Saying
+pub mod Sections
+pub mod Stretching
+pub mod Verdicts

@@ -19,17 +19,17 @@ use Rattle.checkpoint_text.specs.Text.{end_line}
 -- to come behind the next one, and of a query the places of its nodes that are still to come and
 -- what was said of those before
 pub data Stage : Type 0 where
-  version : Stage
-  digest : Option (List Text) → Stage
-  accepted : Option (List Text) → Stage
-  names : Suspended → Stage
-  name : ℕ → List Text → Suspended → Stage
-  lists : Suspended → Stage
-  list : ℕ → Suspended → Stage
-  query : Suspended → Stage
-  node : ℕ → List ℕ → List NodeLists → Suspended → Stage
-  end : Suspended → Stage
-  ended : Suspended → Stage
+  AtVersion : Stage
+  AtDigest : Option (List Text) → Stage
+  AtAccepted : Option (List Text) → Stage
+  AtNames : Suspended → Stage
+  AtName : ℕ → List Text → Suspended → Stage
+  AtLists : Suspended → Stage
+  AtList : ℕ → Suspended → Stage
+  AtQuery : Suspended → Stage
+  AtNode : ℕ → List ℕ → List NodeLists → Suspended → Stage
+  AtEnd : Suspended → Stage
+  Ended : Suspended → Stage
 
 -- nothing but the names and the number of snapshots is said
 abbrev pub begun : Option (List Text) → ℕ → Suspended
@@ -39,28 +39,28 @@ begun names accepted = record { names = names; accepted = accepted; lists = []; 
 
 -- behind the number of accepted snapshots the names, where further ones may come
 abbrev pub behind_accepted : Option (List Text) → ℕ → Stage
-behind_accepted None n = lists (begun None n)
-behind_accepted (Some came) n = names (begun (Some came) n)
+behind_accepted None n = AtLists (begun None n)
+behind_accepted (Some came) n = AtNames (begun (Some came) n)
 
 -- so many names are still to come
 abbrev pub behind_names : ℕ → List Text → Suspended → Stage
-behind_names zero came c = lists (record c { names = Some came })
-behind_names (suc left) came c = name left came c
+behind_names zero came c = AtLists (record c { names = Some came })
+behind_names (suc left) came c = AtName left came c
 
 -- a query, or where all are there the end
 abbrev pub behind_queries : Frame → Suspended → Stage
 behind_queries frame c =
-    if nat_eq (length c.queries) (length frame.queries) then end c else query c
+    if nat_eq (length c.queries) (length frame.queries) then AtEnd c else AtQuery c
 
 -- so many lists are still to come
 abbrev pub behind_lists : Frame → ℕ → Suspended → Stage
 behind_lists frame zero c = behind_queries frame c
-behind_lists frame (suc left) c = list left c
+behind_lists frame (suc left) c = AtList left c
 
 -- the nodes of the query at these places are still to come
 abbrev pub behind_nodes : Frame → List ℕ → List NodeLists → Suspended → Stage
 behind_nodes frame [] nodes c = behind_queries frame (record c { queries = c.queries ++ nodes ∷ [] })
-behind_nodes frame (place ∷ places) nodes c = node place places nodes c
+behind_nodes frame (place ∷ places) nodes c = AtNode place places nodes c
 
 -- ---- which line it is
 
@@ -86,35 +86,35 @@ pub record IsNextNode (frame : Frame) (c : Suspended) (nodes : List NodeLists) (
 
 -- a line that may come at this stage, and the stage behind it
 abbrev pub Allows : Frame → List ℕ → Stage → Text → Stage → Type 0
-Allows frame sum version line next =
-    ((line ≡ version_line None) × (next ≡ digest None))
-    ⊎ ((line ≡ version_line (Some [])) × (next ≡ digest (Some [])))
-Allows frame sum (digest names) line next = (line ≡ digest_line sum) × (next ≡ accepted names)
-Allows frame sum (accepted names) line next = (n : ℕ) × (n < 2 ^ 64) × (line ≡ accepted_line n)
+Allows frame sum AtVersion line next =
+    ((line ≡ version_line None) × (next ≡ AtDigest None))
+    ⊎ ((line ≡ version_line (Some [])) × (next ≡ AtDigest (Some [])))
+Allows frame sum (AtDigest names) line next = (line ≡ digest_line sum) × (next ≡ AtAccepted names)
+Allows frame sum (AtAccepted names) line next = (n : ℕ) × (n < 2 ^ 64) × (line ≡ accepted_line n)
     × (next ≡ behind_accepted names n)
-Allows frame sum (names c) line next = (n : ℕ) × (n < 2 ^ 64) × (line ≡ names_line n)
+Allows frame sum (AtNames c) line next = (n : ℕ) × (n < 2 ^ 64) × (line ≡ names_line n)
     × (next ≡ behind_names n [] c)
-Allows frame sum (name left came c) line next = (text : Text) × IsDeclarable text
+Allows frame sum (AtName left came c) line next = (text : Text) × IsDeclarable text
     × (fault_of_name (with_individuals came frame.ontology) frame.queries false text ≡ None)
     × (line ≡ name_line text) × (next ≡ behind_names left (came ++ text ∷ []) c)
-Allows frame sum (lists c) line next = (n : ℕ) × (n < 2 ^ 64) × (line ≡ lists_line n)
+Allows frame sum (AtLists c) line next = (n : ℕ) × (n < 2 ^ 64) × (line ≡ lists_line n)
     × (next ≡ behind_lists frame n c)
-Allows frame sum (list left c) line next = (sets : List ℕ) × IsNewList frame c sets
+Allows frame sum (AtList left c) line next = (sets : List ℕ) × IsNewList frame c sets
     × (line ≡ list_line sets)
     × (next ≡ behind_lists frame left (record c { lists = c.lists ++ sets ∷ [] }))
-Allows frame sum (query c) line next = (asked : Tcq) × (places : List ℕ)
+Allows frame sum (AtQuery c) line next = (asked : Tcq) × (places : List ℕ)
     × IsNextQuery frame c asked
     × ArePlaces c.accepted (tuples_of frame c asked) asked places
     × (line ≡ query_line (length places)) × (next ≡ behind_nodes frame places [] c)
-Allows frame sum (node place places nodes c) line next = (stretches : List Stretch)
+Allows frame sum (AtNode place places nodes c) line next = (stretches : List Stretch)
     × IsNextNode frame c nodes place stretches
     × All (λ s. (s.count < 2 ^ 64) × (s.list < 2 ^ 64)) stretches
     × (line ≡ node_line (record { place = place; stretches = stretches }))
     × (next ≡ behind_nodes frame places
     (nodes ++ (record { place = place; stretches = stretches }) ∷ []) c)
-Allows frame sum (end c) line next = (line ≡ end_line)
-    × (seen_behind 0 (numbers_of c.queries) ≡ length c.lists) × (next ≡ ended c)
-Allows frame sum (ended c) line next = ⊥
+Allows frame sum (AtEnd c) line next = (line ≡ end_line)
+    × (seen_behind 0 (numbers_of c.queries) ≡ length c.lists) × (next ≡ Ended c)
+Allows frame sum (Ended c) line next = ⊥
 
 -- the lines lead from one stage to another
 abbrev pub Leads : Frame → List ℕ → Stage → List Text → Stage → Type 0

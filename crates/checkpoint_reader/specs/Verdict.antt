@@ -5,8 +5,7 @@ use Rattle.std.specs.List.{All}
 use Rattle.hex.specs.Hex.{IsBytes}
 use Rattle.checkpoint_text.specs.Suspended.{Suspended, Frame, IsSuspended}
 use Rattle.checkpoint_text.specs.Text.{Text, digest_line, ended, text_of, version_line}
-use Rattle.checkpoint_reader.specs.Rules as rules
-use Rattle.checkpoint_reader.specs.Rules.{Stage, Allows, Leads}
+use Rattle.checkpoint_reader.specs.Rules.{Stage, AtVersion, Ended, Allows, Leads}
 
 -- the line has no newline (10)
 abbrev pub IsOneLine : Text → Type 0
@@ -14,7 +13,7 @@ IsOneLine line = All (λ byte. byte ≢ 10) line
 
 -- all lines are there
 abbrev pub IsAtEnd : Stage → Type 0
-IsAtEnd (rules.ended c) = Unit {0}
+IsAtEnd (Ended c) = Unit {0}
 IsAtEnd _ = ⊥
 
 -- what stands behind the allowed lines neither begins with a line that may come next nor is empty
@@ -31,7 +30,7 @@ pub record IsBadAt (frame : Frame) (sum bytes : List ℕ) (number : ℕ) : Type 
   pub stage : Stage
   pub cut : bytes ≡ flat_map ended lines ++ rest
   pub one_each : All IsOneLine lines
-  pub leads : Leads frame sum rules.version lines stage
+  pub leads : Leads frame sum AtVersion lines stage
   pub stops : StopsAt frame sum stage rest
   pub counted : number ≡ length lines + 1
 
