@@ -1,0 +1,5 @@
+mod Arriving
+mod Fitting
+mod Interning
+mod Ordering
+mod Stretching
