@@ -35,7 +35,7 @@ use Rattle.list_lemmas.proofs.Elements.{Contains-none, Contains-first}
 use Rattle.list_lemmas.proofs.Filters.{Contains-filter}
 use Rattle.fact_index.specs.Order.{is_of_concept, is_of_role, first_of, last_of, element_eq}
 use Rattle.fact_index.proofs.Orders.{element_eq-same, element_eq-refl}
-use Rattle.model_audit.specs.FiniteModels.{IsMember, HasPartner, ShowsPartner}
+use Rattle.model_audit.specs.FiniteModels.{IsMember, HasPartner, ShowsPartner, ShowsMember}
 
 concept_to : (id : ConceptId) (f : Fact) → is_of_concept id f ≡ true → (e : Element)
     × (f ≡ fact.Concept id e)
@@ -242,4 +242,19 @@ partner_there index partners r c x same = (
       let inside : Contains partners (role_fact r x e') =
       (same (role_fact r x e')).1 (pair, (e', refl)) in
       (inside.0, role_fact r x e', inside.1, inside.2, (x, e', refl, there)),
+)
+
+-- one of the concept's members is a partner
+pub member_there : (index members : List Fact) (r : Role) (c : ConceptId) (x : Element)
+    → members ≡ filter (is_of_concept c) index
+    → Any (ShowsMember index r c x) members ↔ HasPartner index r c x
+member_there index members r c x is = (
+  λ (k, f, below, at, (e', same, pair)).
+      let found : Contains index f × ((y : Element) × (f ≡ fact.Concept c y)) =
+      (concept_members index members c is f).0 (k, below, at) in
+      (e', pair, subst (Contains index) same found.0),
+  λ (e', pair, there).
+      let inside : Contains members (fact.Concept c e') =
+      (concept_members index members c is (fact.Concept c e')).1 (there, (e', refl)) in
+      (inside.0, fact.Concept c e', inside.1, inside.2, (e', refl, pair)),
 )

@@ -1,7 +1,7 @@
 -- Finite models: finite lists of facts that hold what an ontology says, told without the chase.
 -- The right sides are those of DL-Lite_R, after Calvanese, De Giacomo, Lembo, Lenzerini and Rosati
 -- 2007.
-use Rattle.std.specs.Prelude.{List}
+use Rattle.std.specs.Prelude.{◌≡◌, List}
 use Rattle.std.specs.List.{All, Contains}
 use Rattle.dl_syntax.specs.declared.names.ConceptId.{ConceptId}
 use Rattle.dl_syntax.specs.declared.facts.Element.{Element}
@@ -28,6 +28,11 @@ HasPartner facts r c e =
 -- the fact makes a pair of the role whose second element is in the concept
 abbrev pub ShowsPartner : List Fact → Role → ConceptId → Fact → Type 0
 ShowsPartner facts r c f = (e e' : Element) × Pair r e e' f × Contains facts (fact.Concept c e')
+
+-- the fact puts an element into the concept with which this one has a pair of the role
+abbrev pub ShowsMember : List Fact → Role → ConceptId → Element → Fact → Type 0
+ShowsMember facts r c e f = (e' : Element) × (f ≡ fact.Concept c e')
+    × Contains facts (role_fact r e e')
 
 -- wherever the fact makes the left side true, the facts hold the right side
 abbrev pub Keeps : List Fact → Inclusion → Fact → Type 0

@@ -4,9 +4,9 @@ ghost use Rattle.std.specs.List.{Any};
 ghost use Rattle.dl_syntax.specs.declared.facts.Element.{Element as ElementValue};
 ghost use Rattle.dl_syntax.specs.declared.facts.Fact.{Fact as FactValue};
 ghost use Rattle.dl_syntax.specs.Facts.{In, Pair};
-ghost use Rattle.model_audit.specs.FiniteModels.{IsMember, HasPartner, ShowsPartner};
+ghost use Rattle.model_audit.specs.FiniteModels.{IsMember, HasPartner, ShowsPartner, ShowsMember};
 
-use dl_syntax::{Basic, ConceptId, Element, Fact, Role, element_in, pair_in};
+use dl_syntax::{Basic, ConceptId, Element, Fact, Role, element_in, pair_in, role_fact};
 use fact_index::{Index, with_first, with_last};
 
 /// The facts that make a pair of the role.
@@ -80,9 +80,47 @@ fn one_shows_partner(index: &Index, role: &Role, concept: ConceptId, facts: &[Fa
         .any(|fact| shows_partner(index, role, concept, fact))
 }
 
-/// Whether some element has the pair with this one and is in the concept.
+/// Whether the fact puts an element into the concept with which this one has a pair of the role.
+fn shows_member(
+    index: &Index,
+    role: &Role,
+    concept: ConceptId,
+    element: Element,
+    fact: &Fact,
+) -> bool
+    ensures { IsTrue result ↔ ShowsMember index.now role.now concept element fact.now }
+{
+    match element_in(&Basic::Concept(concept), fact) {
+        Some(second) => index.has(&role_fact(role, element, second)),
+        None => false,
+    }
+}
+
+/// Whether one of the facts does.
+fn one_shows_member(
+    index: &Index,
+    role: &Role,
+    concept: ConceptId,
+    element: Element,
+    facts: &[Fact],
+) -> bool
+    ensures { IsTrue result ↔ Any (ShowsMember index.now role.now concept element) facts.now }
+{
+    facts
+        .iter()
+        .any(|fact| shows_member(index, role, concept, element, fact))
+}
+
+/// Whether some element has the pair with this one and is in the concept: the partners or the
+/// concept's members are looked at, whichever are fewer.
 pub fn has_partner(index: &Index, role: &Role, concept: ConceptId, element: Element) -> bool
     ensures { IsTrue result ↔ HasPartner index.now role.now concept element }
 {
-    one_shows_partner(index, role, concept, partners(index, role, element))
+    let partners = partners(index, role, element);
+    let members = index.concept(concept);
+    if partners.len() <= members.len() {
+        one_shows_partner(index, role, concept, partners)
+    } else {
+        one_shows_member(index, role, concept, element, members)
+    }
 }
