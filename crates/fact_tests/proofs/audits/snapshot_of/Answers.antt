@@ -1,0 +1,7 @@
+-- Answers to the goals of `snapshot_of`: one fact without nulls is a snapshot.
+use Rattle.fact_index.proofs.OneFact.{one_fact}
+use Rattle.fact_tests.proofs.audits.snapshot_of.Goals as goal
+
+pub new-requires : goal.new-requires
+new-requires c =
+    rw (c.in_ok-push.ensures.items, c.new-facts.ensures.items) (one_fact c.args.fact c.requires)
