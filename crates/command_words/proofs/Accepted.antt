@@ -17,8 +17,8 @@ use Rattle.command_words.specs.declared.names.CommandName.TheVariants.{Watch, On
 use Rattle.command_words.specs.declared.request.FilesCommand.{FilesCommand}
 use Rattle.command_words.specs.Commands.{app_of_command, faults_in, rows_in}
 use Rattle.command_words.specs.Meanings.{is_file}
-use Rattle.command_words.specs.Canonical.{AreOnce, Choice, option_word, option_words, owl}
-use Rattle.command_words.specs.Canonical.{owl_choices}
+use Rattle.command_words.specs.Canonical.{AreFiles, AreOnce, Choice, option_word, option_words}
+use Rattle.command_words.specs.Canonical.{owl, owl_choices}
 use Rattle.command_words.proofs.Walking.{Flag, flag_built, flag_name, held_after, held_places}
 use Rattle.command_words.proofs.Walking.{no_names, of_owl, of_sizes, rules, shape, shape_is}
 use Rattle.command_words.proofs.Walking.{stands, walk_options, walk_words}
@@ -251,16 +251,16 @@ rows_at_end a b cs once =
     (flags_added (map row_of_choice cs))
 
 pub options_are_taken : (a b : Text) (cs : List Choice) → is_file a ≡ true → is_file b ≡ true
-    → AreOnce cs
+    → AreOnce cs → AreFiles cs
     → Takes Watch (a ∷ b ∷ option_words cs) (place_rows Watch a b ++ option_rows cs)
 unfolding ends_held
-options_are_taken a b cs first second once = record {
+options_are_taken a b cs first second once files = record {
   end = ends_held a b cs;
   passes = words_pass Watch a b (option_words cs) first second
-      (options_pass cs (held_places Watch a b) once (fresh_at_first cs a b)
+      (options_pass cs (held_places Watch a b) once files (fresh_at_first cs a b)
       (places_settle Watch a b));
-  goes = walk_words Watch a b (option_words cs) first second ∙ walk_options cs
-      (held_places Watch a b);
+  goes = walk_words Watch a b (option_words cs) first second
+      ∙ walk_options cs (held_places Watch a b) files;
   settles = settle_after cs (held_places Watch a b) once (fresh_at_first cs a b)
       (places_settle Watch a b);
   found = rows_at_end a b cs once;

@@ -19,12 +19,14 @@ use Rattle.command_words.specs.Commands.{command_named, command_of, files_word, 
 use Rattle.command_words.specs.Commands.{is_barred_word}
 use Rattle.command_words.specs.Meanings.{Answers, Meaning, file_in, is_file, meaning_in}
 use Rattle.command_words.specs.Meanings.{meaning_of_words, number_in, report_form_in}
-use Rattle.command_words.specs.Meanings.{flag_in, report_form_of, stream_form_in, stream_form_of}
+use Rattle.command_words.specs.Meanings.{flag_in, option_file_in, option_file_of}
+use Rattle.command_words.specs.Meanings.{report_form_of, stream_form_in, stream_form_of}
 use Rattle.command_words.specs.Canonical as said
-use Rattle.command_words.specs.Canonical.{AreOnce, Canonical, Choice, IsCanonical, IsMeant}
+use Rattle.command_words.specs.Canonical.{AreFiles, Canonical, Choice, IsCanonical, IsMeant}
 use Rattle.command_words.specs.Canonical.{canonical_meaning, canonical_words, form, form_said}
-use Rattle.command_words.specs.Canonical.{has_name, name_of, option_words, report_as, report_said}
-use Rattle.command_words.specs.Canonical.{owl, owl_choices, report_word, sizes, stream_word}
+use Rattle.command_words.specs.Canonical.{from, from_said, has_name, name_of, option_words}
+use Rattle.command_words.specs.Canonical.{owl, owl_choices, report_as, report_said, report_word}
+use Rattle.command_words.specs.Canonical.{sizes, stream_word, to, to_said}
 use Rattle.command_words.proofs.Numerals.{decimal_is_file, decimal_says}
 use Rattle.command_words.proofs.Walking.{Flag, flag_name, of_owl, of_sizes, report_word_is_file}
 use Rattle.command_words.proofs.Walking.{stream_word_is_file}
@@ -41,20 +43,28 @@ file_is_fine : (t : Text) → is_file t ≡ true → is_barred_word t ≡ false
 file_is_fine [] file = absurd (cc)
 file_is_fine (x ∷ xs) file = grind (arith, nat_tests)
 
-options_are_fine : (cs : List Choice) → has_barred_word (option_words cs) ≡ false
-options_are_fine [] = refl
-options_are_fine (form f ∷ cs) =
-    rw (file_is_fine (stream_word f) (stream_word_is_file f)) (options_are_fine cs)
-options_are_fine (report_as r ∷ cs) =
-    rw (file_is_fine (report_word r) (report_word_is_file r)) (options_are_fine cs)
-options_are_fine (sizes ∷ cs) = options_are_fine cs
-options_are_fine (owl ∷ cs) = options_are_fine cs
+options_are_fine : (cs : List Choice) → AreFiles cs → has_barred_word (option_words cs) ≡ false
+options_are_fine [] files = refl
+options_are_fine (form f ∷ cs) files =
+    rw (file_is_fine (stream_word f) (stream_word_is_file f)) (options_are_fine cs files)
+options_are_fine (report_as r ∷ cs) files =
+    rw (file_is_fine (report_word r) (report_word_is_file r)) (options_are_fine cs files)
+options_are_fine (sizes ∷ cs) files = options_are_fine cs files
+options_are_fine (owl ∷ cs) files = options_are_fine cs files
+options_are_fine (from file ∷ cs) files =
+    rw (file_is_fine file files.0) (options_are_fine cs files.1)
+options_are_fine (to file ∷ cs) files =
+    rw (file_is_fine file files.0) (options_are_fine cs files.1)
+
+owl_is_fine : (is_owl : Bool) → has_barred_word (option_words (owl_choices is_owl)) ≡ false
+owl_is_fine true = refl
+owl_is_fine false = refl
 
 watch_is_named : (a b : Text) (cs : List Choice) → is_file a ≡ true → is_file b ≡ true
-    → command_of (codes "watch" ∷ a ∷ b ∷ option_words cs) ≡ Some Watch
+    → AreFiles cs → command_of (codes "watch" ∷ a ∷ b ∷ option_words cs) ≡ Some Watch
 unfolding command_of
-watch_is_named a b cs first second =
-    rw (file_is_fine a first, file_is_fine b second, options_are_fine cs)
+watch_is_named a b cs first second files =
+    rw (file_is_fine a first, file_is_fine b second, options_are_fine cs files)
 
 files_word_is_free : (f : FilesCommand) → (is_barred_word (files_word f) ≡ false)
     × (command_named (files_word f) ≡ Some (OnFiles f))
@@ -72,7 +82,7 @@ on_files_is_named f a b is_owl first second =
       word.0,
       file_is_fine a first,
       file_is_fine b second,
-      options_are_fine (owl_choices is_owl),
+      owl_is_fine is_owl,
     )
     word.1
 
@@ -155,6 +165,8 @@ form_chosen (form stream.Json ∷ cs) = refl
 form_chosen (report_as r ∷ cs) = form_chosen cs
 form_chosen (sizes ∷ cs) = form_chosen cs
 form_chosen (owl ∷ cs) = form_chosen cs
+form_chosen (from file ∷ cs) = form_chosen cs
+form_chosen (to file ∷ cs) = form_chosen cs
 
 report_chosen : (cs : List Choice)
     → report_form_of (unwrap_or (chosen (codes "report") cs) (codes "text")) ≡ Some (report_said cs)
@@ -165,6 +177,8 @@ report_chosen (report_as report.Objects ∷ cs) = refl
 report_chosen (report_as (report.Lines line.Csv) ∷ cs) = refl
 report_chosen (sizes ∷ cs) = report_chosen cs
 report_chosen (owl ∷ cs) = report_chosen cs
+report_chosen (from file ∷ cs) = report_chosen cs
+report_chosen (to file ∷ cs) = report_chosen cs
 
 sizes_chosen : (cs : List Choice)
     → bytes_eq (unwrap_or (chosen (codes "sizes") cs) (codes "false")) (codes "true")
@@ -174,6 +188,8 @@ sizes_chosen (form f ∷ cs) = sizes_chosen cs
 sizes_chosen (report_as r ∷ cs) = sizes_chosen cs
 sizes_chosen (sizes ∷ cs) = refl
 sizes_chosen (owl ∷ cs) = sizes_chosen cs
+sizes_chosen (from file ∷ cs) = sizes_chosen cs
+sizes_chosen (to file ∷ cs) = sizes_chosen cs
 
 owl_chosen : (cs : List Choice)
     → bytes_eq (unwrap_or (chosen (codes "owl") cs) (codes "false")) (codes "true")
@@ -183,6 +199,28 @@ owl_chosen (form f ∷ cs) = owl_chosen cs
 owl_chosen (report_as r ∷ cs) = owl_chosen cs
 owl_chosen (sizes ∷ cs) = owl_chosen cs
 owl_chosen (owl ∷ cs) = refl
+owl_chosen (from file ∷ cs) = owl_chosen cs
+owl_chosen (to file ∷ cs) = owl_chosen cs
+
+from_chosen : (cs : List Choice) → AreFiles cs
+    → option_file_of (chosen (codes "from") cs) ≡ Some (from_said cs)
+from_chosen [] files = refl
+from_chosen (form f ∷ cs) files = from_chosen cs files
+from_chosen (report_as r ∷ cs) files = from_chosen cs files
+from_chosen (sizes ∷ cs) files = from_chosen cs files
+from_chosen (owl ∷ cs) files = from_chosen cs files
+from_chosen (from file ∷ cs) files = rw files.0
+from_chosen (to file ∷ cs) files = from_chosen cs files.1
+
+to_chosen : (cs : List Choice) → AreFiles cs
+    → option_file_of (chosen (codes "to") cs) ≡ Some (to_said cs)
+to_chosen [] files = refl
+to_chosen (form f ∷ cs) files = to_chosen cs files
+to_chosen (report_as r ∷ cs) files = to_chosen cs files
+to_chosen (sizes ∷ cs) files = to_chosen cs files
+to_chosen (owl ∷ cs) files = to_chosen cs files
+to_chosen (from file ∷ cs) files = to_chosen cs files.1
+to_chosen (to file ∷ cs) files = rw files.0
 
 -- whether the options have a row of this name
 is_there : Text → List Choice → Bool
@@ -225,6 +263,26 @@ owl_is a b cs =
     (owl_value cs (is_there (codes "owl") cs) (is_there (codes "sizes") cs) refl)
     ∙ owl_chosen cs
 
+from_is : (a b : Text) (cs : List Choice) → AreFiles cs
+    → option_file_in (codes "from") (place_rows Watch a b ++ option_rows cs) ≡ Some (from_said cs)
+unfolding option_file_in option_rows flags_added is_there
+from_is a b cs files =
+    let is_owl : Bool = is_there (codes "owl") cs in
+    let is_sizes : Bool = is_there (codes "sizes") cs in
+    ap option_file_of
+    (first_chosen (codes "from") cs (added of_owl is_owl ++ added of_sizes is_sizes)
+    (none_of_flags (codes "from") refl refl is_owl is_sizes)) ∙ from_chosen cs files
+
+to_is : (a b : Text) (cs : List Choice) → AreFiles cs
+    → option_file_in (codes "to") (place_rows Watch a b ++ option_rows cs) ≡ Some (to_said cs)
+unfolding option_file_in option_rows flags_added is_there
+to_is a b cs files =
+    let is_owl : Bool = is_there (codes "owl") cs in
+    let is_sizes : Bool = is_there (codes "sizes") cs in
+    ap option_file_of
+    (first_chosen (codes "to") cs (added of_owl is_owl ++ added of_sizes is_sizes)
+    (none_of_flags (codes "to") refl refl is_owl is_sizes)) ∙ to_chosen cs files
+
 -- ---- the two places
 
 ontology_is : (a b : Text) (tail : List Row) → is_file a ≡ true
@@ -238,10 +296,10 @@ unfolding file_in
 queries_is a b tail file = rw file
 
 watch_means : (a b : Text) (cs : List Choice) → is_file a ≡ true → is_file b ≡ true
-    → meaning_in Watch (place_rows Watch a b ++ option_rows cs)
+    → AreFiles cs → meaning_in Watch (place_rows Watch a b ++ option_rows cs)
     ≡ Some (canonical_meaning (said.watch a b cs))
 unfolding meaning_in
-watch_means a b cs first second =
+watch_means a b cs first second files =
     rw (
       ontology_is a b (option_rows cs) first,
       queries_is a b (option_rows cs) second,
@@ -249,6 +307,8 @@ watch_means a b cs first second =
       form_is a b cs,
       report_is a b cs,
       sizes_are a b cs,
+      from_is a b cs files,
+      to_is a b cs files,
     )
 
 flag_is : (f : FilesCommand) (a b : Text) (is_owl : Bool)
@@ -296,8 +356,8 @@ pub canonical_means : (c : Canonical) → IsCanonical c
     → meaning_of_words (canonical_words c) ≡ Some (canonical_meaning c)
 canonical_means (said.watch a b cs) good =
     taken_mean Watch (codes "watch") (a ∷ b ∷ option_words cs) _ _
-    (watch_is_named a b cs good.0 good.1) (options_are_taken a b cs good.0 good.1 good.2)
-    (watch_means a b cs good.0 good.1)
+    (watch_is_named a b cs good.0 good.1 good.3)
+    (options_are_taken a b cs good.0 good.1 good.2 good.3) (watch_means a b cs good.0 good.1 good.3)
 canonical_means (said.on_files f a b is_owl) good =
     taken_mean (OnFiles f) (files_word f) (a ∷ b ∷ option_words (owl_choices is_owl)) _ _
     (on_files_is_named f a b is_owl good.0 good.1)

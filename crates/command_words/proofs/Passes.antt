@@ -11,12 +11,13 @@ use Rattle.clap.proofs.OnLiterals.{clap_on_literals}
 use Rattle.command_words.specs.declared.names.CommandName.{CommandName}
 use Rattle.command_words.specs.declared.names.CommandName.TheVariants.{Watch, OnFiles, Drill}
 use Rattle.command_words.specs.Meanings.{is_file}
-use Rattle.command_words.specs.Canonical.{AreOnce, Choice, form, name_of, option_word, option_words}
-use Rattle.command_words.specs.Canonical.{owl, report_as, report_word, sizes, stream_word}
+use Rattle.command_words.specs.Canonical.{AreFiles, AreOnce, Choice, form, from, name_of}
+use Rattle.command_words.specs.Canonical.{option_word, option_words, owl, report_as, report_word}
+use Rattle.command_words.specs.Canonical.{sizes, stream_word, to}
 use Rattle.command_words.proofs.Walking.{Valued, by_id, by_long, file_is_plain, first_step}
 use Rattle.command_words.proofs.Walking.{flag_built, flag_by_long, held_after, held_places}
-use Rattle.command_words.proofs.Walking.{held_value, held_with, name_step, of_form, of_owl}
-use Rattle.command_words.proofs.Walking.{of_report, of_sizes, option_reads, owl_step}
+use Rattle.command_words.proofs.Walking.{held_value, held_with, name_step, of_form, of_from}
+use Rattle.command_words.proofs.Walking.{of_owl, of_report, of_sizes, of_to, option_reads, owl_step}
 use Rattle.command_words.proofs.Walking.{report_word_is_file, rules, second_step, shape}
 use Rattle.command_words.proofs.Walking.{sizes_step, stands, stands_first, stream_word_is_file}
 use Rattle.command_words.proofs.Walking.{value_step, valued_name, waits}
@@ -56,6 +57,8 @@ settle_passes (form f) h absent = value_settles of_form (stream_word f) h absent
 settle_passes (report_as r) h absent = value_settles of_report (report_word r) h absent
 settle_passes sizes h absent = refl
 settle_passes owl h absent = refl
+settle_passes (from file) h absent = value_settles of_from file h absent
+settle_passes (to file) h absent = value_settles of_to file h absent
 
 -- ---- the options in turn
 
@@ -92,28 +95,36 @@ pub nothing_more : (c : CommandName) (w : Walk) → walk_fault (shape c) [] w []
 unfolding walk_fault
 nothing_more c w = refl
 
-pub options_pass : (cs : List Choice) (h : Held) → AreOnce cs → AreFresh cs (rows_at Watch h)
-    → settle_fault (rules Watch) false h ≡ []
+pub options_pass : (cs : List Choice) (h : Held) → AreOnce cs → AreFiles cs
+    → AreFresh cs (rows_at Watch h) → settle_fault (rules Watch) false h ≡ []
     → walk_fault (shape Watch) [] (stands h) (option_words cs) ≡ []
-options_pass [] h once fresh passes = nothing_more Watch (stands h)
-options_pass (form f ∷ cs) h once fresh passes =
+options_pass [] h once files fresh passes = nothing_more Watch (stands h)
+options_pass (form f ∷ cs) h once files fresh passes =
     value_then of_form (stream_word f) h (option_words cs) (stream_word_is_file f) passes
-    (options_pass cs (held_with (form f) h) once.1 (fresh_later (form f) cs h once.0 fresh)
+    (options_pass cs (held_with (form f) h) once.1 files (fresh_later (form f) cs h once.0 fresh)
     (settle_passes (form f) h fresh.0))
-options_pass (report_as r ∷ cs) h once fresh passes =
+options_pass (report_as r ∷ cs) h once files fresh passes =
     value_then of_report (report_word r) h (option_words cs) (report_word_is_file r) passes
-    (options_pass cs (held_with (report_as r) h) once.1
+    (options_pass cs (held_with (report_as r) h) once.1 files
     (fresh_later (report_as r) cs h once.0 fresh) (settle_passes (report_as r) h fresh.0))
-options_pass (sizes ∷ cs) h once fresh passes =
+options_pass (sizes ∷ cs) h once files fresh passes =
     turn_then Watch (stands h) (stands (held_with sizes h)) (option_word (codes "sizes"))
     (option_words cs) (sizes_passes h passes fresh.0) (sizes_step h)
-    (options_pass cs (held_with sizes h) once.1 (fresh_later sizes cs h once.0 fresh)
+    (options_pass cs (held_with sizes h) once.1 files (fresh_later sizes cs h once.0 fresh)
     (settle_passes sizes h fresh.0))
-options_pass (owl ∷ cs) h once fresh passes =
+options_pass (owl ∷ cs) h once files fresh passes =
     turn_then Watch (stands h) (stands (held_with owl h)) (option_word (codes "owl"))
     (option_words cs) (owl_passes h passes fresh.0) (owl_step h)
-    (options_pass cs (held_with owl h) once.1 (fresh_later owl cs h once.0 fresh)
+    (options_pass cs (held_with owl h) once.1 files (fresh_later owl cs h once.0 fresh)
     (settle_passes owl h fresh.0))
+options_pass (from file ∷ cs) h once files fresh passes =
+    value_then of_from file h (option_words cs) files.0 passes
+    (options_pass cs (held_with (from file) h) once.1 files.1
+    (fresh_later (from file) cs h once.0 fresh) (settle_passes (from file) h fresh.0))
+options_pass (to file ∷ cs) h once files fresh passes =
+    value_then of_to file h (option_words cs) files.0 passes
+    (options_pass cs (held_with (to file) h) once.1 files.1
+    (fresh_later (to file) cs h once.0 fresh) (settle_passes (to file) h fresh.0))
 
 -- ---- the two words that stand at their places
 

@@ -12,9 +12,10 @@ use Rattle.clap.specs.declared.parser.matches.ValueSource.TheVariants.{CommandLi
 use Rattle.command_words.specs.declared.names.CommandName.{CommandName}
 use Rattle.command_words.specs.declared.names.CommandName.TheVariants.{Watch, OnFiles, Drill}
 use Rattle.command_words.specs.Canonical.{AreOnce, Choice, form, has_name, name_of, report_as}
-use Rattle.command_words.specs.Canonical.{report_word, sizes, owl, stream_word}
+use Rattle.command_words.specs.Canonical.{report_word, sizes, owl, from, to, stream_word}
 use Rattle.command_words.proofs.Walking.{Valued, by_id, first_id, flag_built, held_after}
-use Rattle.command_words.proofs.Walking.{held_places, held_value, held_with, of_form, of_report}
+use Rattle.command_words.proofs.Walking.{held_places, held_value, held_with, of_form, of_from}
+use Rattle.command_words.proofs.Walking.{of_report, of_to}
 use Rattle.command_words.proofs.Walking.{place_built, rules, second_id, value_built, valued_name}
 
 pub or_parts : (a b : Bool) → (a || b) ≡ false → (a ≡ false) × (b ≡ false)
@@ -40,12 +41,16 @@ value_of (form f) = stream_word f
 value_of (report_as r) = report_word r
 value_of sizes = codes "true"
 value_of owl = codes "true"
+value_of (from file) = file
+value_of (to file) = file
 
 abbrev pub reading_of_choice : Choice → Reading
 reading_of_choice (form f) = reading_by (value_built (codes "form"))
 reading_of_choice (report_as r) = reading_by (value_built (codes "report"))
 reading_of_choice sizes = reading_by (flag_built (codes "sizes"))
 reading_of_choice owl = reading_by (flag_built (codes "owl"))
+reading_of_choice (from file) = reading_by (value_built (codes "from"))
+reading_of_choice (to file) = reading_by (value_built (codes "to"))
 
 abbrev pub row_of_choice : Choice → Row
 row_of_choice c = record {
@@ -91,6 +96,8 @@ rows_step owl h absent =
     rw (without_absent (codes "owl") (rows_at Watch h) absent)
     (at_absent (codes "owl") (more_values CommandLine (codes "true" ∷ []))
     (row_of_choice owl ∷ []) (rows_at Watch h) absent)
+rows_step (from file) h absent = value_rows_step of_from file h absent
+rows_step (to file) h absent = value_rows_step of_to file h absent
 
 -- none of the choices has a row
 abbrev pub AreFresh : List Choice → List Row → Type 0
@@ -152,6 +159,8 @@ is_fresh (form f) a b = refl
 is_fresh (report_as r) a b = refl
 is_fresh sizes a b = refl
 is_fresh owl a b = refl
+is_fresh (from file) a b = refl
+is_fresh (to file) a b = refl
 
 are_fresh : (cs : List Choice) (a b : Text) → AreFresh cs (place_rows Watch a b)
 are_fresh [] a b = tt

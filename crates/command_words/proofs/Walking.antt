@@ -17,8 +17,8 @@ use Rattle.forms.specs.declared.ReportForm.TheVariants as report
 use Rattle.command_words.specs.Commands.{app_of_command, files_word, flag_rule, place_rule}
 use Rattle.command_words.specs.Commands.{value_rule}
 use Rattle.command_words.specs.Meanings.{is_file}
-use Rattle.command_words.specs.Canonical.{Choice, form, report_as, sizes, owl, option_word}
-use Rattle.command_words.specs.Canonical.{option_words, report_word, stream_word}
+use Rattle.command_words.specs.Canonical.{AreFiles, Choice, form, report_as, sizes, owl, from, to}
+use Rattle.command_words.specs.Canonical.{option_word, option_words, report_word, stream_word}
 
 -- ---- each command as it is built
 
@@ -49,7 +49,7 @@ command_name Drill = codes "drill"
 abbrev option_rules : CommandName → List Rule
 option_rules Watch =
     flag_built (codes "owl") ∷ value_built (codes "form") ∷ value_built (codes "report")
-    ∷ flag_built (codes "sizes") ∷ []
+    ∷ flag_built (codes "sizes") ∷ value_built (codes "from") ∷ value_built (codes "to") ∷ []
 option_rules (OnFiles f) = flag_built (codes "owl") ∷ []
 option_rules Drill = []
 
@@ -99,22 +99,30 @@ report_word_is_file (report.Lines line.Csv) = refl
 pub data Valued : Type 0 where
   of_form : Valued
   of_report : Valued
+  of_from : Valued
+  of_to : Valued
 
 abbrev pub valued_name : Valued → Text
 valued_name of_form = codes "form"
 valued_name of_report = codes "report"
+valued_name of_from = codes "from"
+valued_name of_to = codes "to"
 
 pub by_long : (n : Valued) → arg_by_long (rules Watch) (valued_name n)
     ≡ Some (value_built (valued_name n))
 unfolding rules clap_on_literals
 by_long of_form = refl
 by_long of_report = refl
+by_long of_from = refl
+by_long of_to = refl
 
 pub by_id : (n : Valued) → arg_by_id (rules Watch) (valued_name n)
     ≡ Some (value_built (valued_name n))
 unfolding rules clap_on_literals
 by_id of_form = refl
 by_id of_report = refl
+by_id of_from = refl
+by_id of_to = refl
 
 -- the flags
 pub data Flag : Type 0 where
@@ -137,10 +145,14 @@ pub option_reads : (n : Valued)
 unfolding clap_on_literals
 option_reads of_form = (refl, refl)
 option_reads of_report = (refl, refl)
+option_reads of_from = (refl, refl)
+option_reads of_to = (refl, refl)
 
 same_name : (n : Valued) → bytes_eq (valued_name n) (valued_name n) ≡ true
 same_name of_form = refl
 same_name of_report = refl
+same_name of_from = refl
+same_name of_to = refl
 
 -- the walk stands after an option that is whole
 abbrev pub stands : Held → Walk
@@ -166,6 +178,8 @@ held_with (form f) h = held_value of_form (stream_word f) h
 held_with (report_as r) h = held_value of_report (report_word r) h
 held_with sizes h = reacted (rules Watch) (flag_built (codes "sizes")) [] h
 held_with owl h = reacted (rules Watch) (flag_built (codes "owl")) [] h
+held_with (from file) h = held_value of_from file h
+held_with (to file) h = held_value of_to file h
 
 pub name_step : (n : Valued) (h : Held)
     → walked (rules Watch) [] (stands h) (option_word (valued_name n)) ≡ waits (valued_name n) h
@@ -204,21 +218,27 @@ walk_value n t h end rest file later =
     ∙ ap (λ w. fold (walked (rules Watch) []) w rest) (value_step n h t file)
     ∙ later
 
-pub walk_options : (cs : List Choice) (h : Held)
+pub walk_options : (cs : List Choice) (h : Held) → AreFiles cs
     → fold (walked (rules Watch) []) (stands h) (option_words cs) ≡ stands (held_after cs h)
-walk_options [] h = refl
-walk_options (form f ∷ cs) h =
+walk_options [] h files = refl
+walk_options (form f ∷ cs) h files =
     walk_value of_form (stream_word f) h (held_after cs (held_with (form f) h)) (option_words cs)
-    (stream_word_is_file f) (walk_options cs (held_with (form f) h))
-walk_options (report_as r ∷ cs) h =
+    (stream_word_is_file f) (walk_options cs (held_with (form f) h) files)
+walk_options (report_as r ∷ cs) h files =
     walk_value of_report (report_word r) h (held_after cs (held_with (report_as r) h))
-    (option_words cs) (report_word_is_file r) (walk_options cs (held_with (report_as r) h))
-walk_options (sizes ∷ cs) h =
-    ap (λ w. fold (walked (rules Watch) []) w (option_words cs)) (sizes_step h) ∙ walk_options cs
-    (held_with sizes h)
-walk_options (owl ∷ cs) h =
-    ap (λ w. fold (walked (rules Watch) []) w (option_words cs)) (owl_step h) ∙ walk_options cs
-    (held_with owl h)
+    (option_words cs) (report_word_is_file r) (walk_options cs (held_with (report_as r) h) files)
+walk_options (sizes ∷ cs) h files =
+    ap (λ w. fold (walked (rules Watch) []) w (option_words cs)) (sizes_step h)
+    ∙ walk_options cs (held_with sizes h) files
+walk_options (owl ∷ cs) h files =
+    ap (λ w. fold (walked (rules Watch) []) w (option_words cs)) (owl_step h)
+    ∙ walk_options cs (held_with owl h) files
+walk_options (from file ∷ cs) h files =
+    walk_value of_from file h (held_after cs (held_with (from file) h)) (option_words cs) files.0
+    (walk_options cs (held_with (from file) h) files.1)
+walk_options (to file ∷ cs) h files =
+    walk_value of_to file h (held_after cs (held_with (to file) h)) (option_words cs) files.0
+    (walk_options cs (held_with (to file) h) files.1)
 
 -- ---- the two words that stand at their places
 

@@ -1,6 +1,6 @@
 -- The canonical words of each command: its name, its two arguments, and its options.
 use Rattle.std.specs.Prelude.{◌≡◌, ◌≤◌, ℕ, Bool, true, false, List, [], ◌∷◌, codes, decimal}
-use Rattle.std.specs.Prelude.{if◌then◌else◌, MatchResult, Result}
+use Rattle.std.specs.Prelude.{if◌then◌else◌, MatchResult, Option, None, Some, Result}
 use Rattle.std.specs.List.{list_any}
 use Rattle.std.specs.Str.{bytes_eq}
 use Rattle.clap.specs.Walk.{Text}
@@ -23,6 +23,8 @@ pub data Choice : Type 0 where
   report_as : ReportForm → Choice
   sizes : Choice
   owl : Choice
+  from : Text → Choice
+  to : Text → Choice
 
 -- the command with what follows its name. The one option of a command on files stands or not
 pub data Canonical : Type 0 where
@@ -49,6 +51,8 @@ name_of (form f) = codes "form"
 name_of (report_as r) = codes "report"
 name_of sizes = codes "sizes"
 name_of owl = codes "owl"
+name_of (from file) = codes "from"
+name_of (to file) = codes "to"
 
 -- the word for an option: two hyphens (45) and its name
 abbrev pub option_word : Text → Text
@@ -61,6 +65,8 @@ option_words (form f ∷ rest) = option_word (codes "form") ∷ stream_word f �
 option_words (report_as r ∷ rest) = option_word (codes "report") ∷ report_word r ∷ option_words rest
 option_words (sizes ∷ rest) = option_word (codes "sizes") ∷ option_words rest
 option_words (owl ∷ rest) = option_word (codes "owl") ∷ option_words rest
+option_words (from file ∷ rest) = option_word (codes "from") ∷ file ∷ option_words rest
+option_words (to file ∷ rest) = option_word (codes "to") ∷ file ∷ option_words rest
 
 -- the option that says that the ontology is an OWL 2 document, where it is
 abbrev pub owl_choices : Bool → List Choice
@@ -85,11 +91,18 @@ abbrev pub AreOnce : List Choice → Type 0
 AreOnce [] = Unit {0}
 AreOnce (choice ∷ rest) = (has_name (name_of choice) rest ≡ false) × AreOnce rest
 
+-- what an option names as a file may name one
+abbrev pub AreFiles : List Choice → Type 0
+AreFiles [] = Unit {0}
+AreFiles (from file ∷ rest) = (is_file file ≡ true) × AreFiles rest
+AreFiles (to file ∷ rest) = (is_file file ≡ true) × AreFiles rest
+AreFiles (_ ∷ rest) = AreFiles rest
+
 -- the files have names that may name a file, each option stands at most once, and no number is
 -- above its limit
 abbrev pub IsCanonical : Canonical → Type 0
 IsCanonical (watch ontology queries choices) = (is_file ontology ≡ true) × (is_file queries ≡ true)
-    × AreOnce choices
+    × AreOnce choices × AreFiles choices
 IsCanonical (on_files command ontology queries is_owl) =
     (is_file ontology ≡ true) × (is_file queries ≡ true)
 IsCanonical (drill seed count) = (seed ≤ 2147483647) × (count ≤ 100000)
@@ -100,17 +113,25 @@ IsCanonical (drill seed count) = (seed ≤ 2147483647) × (count ≤ 100000)
 abbrev pub form_said : List Choice → StreamForm
 form_said [] = stream.Text
 form_said (form f ∷ rest) = f
-form_said (report_as r ∷ rest) = form_said rest
-form_said (sizes ∷ rest) = form_said rest
-form_said (owl ∷ rest) = form_said rest
+form_said (_ ∷ rest) = form_said rest
 
 -- the form of the report that the options say, or text
 abbrev pub report_said : List Choice → ReportForm
 report_said [] = report.Lines line.Text
-report_said (form f ∷ rest) = report_said rest
 report_said (report_as r ∷ rest) = r
-report_said (sizes ∷ rest) = report_said rest
-report_said (owl ∷ rest) = report_said rest
+report_said (_ ∷ rest) = report_said rest
+
+-- the file of the checkpoint from which the options say that the watch goes on, if they say one
+abbrev pub from_said : List Choice → Option Text
+from_said [] = None
+from_said (from file ∷ rest) = Some file
+from_said (_ ∷ rest) = from_said rest
+
+-- the file in which the options say that a checkpoint is stored, if they say one
+abbrev pub to_said : List Choice → Option Text
+to_said [] = None
+to_said (to file ∷ rest) = Some file
+to_said (_ ∷ rest) = to_said rest
 
 -- what the canonical words mean
 abbrev pub canonical_meaning : Canonical → Meaning
@@ -121,6 +142,8 @@ canonical_meaning (watch ontology queries choices) = meaning.watch (record {
   form = form_said choices;
   report = report_said choices;
   sizes = has_name (codes "sizes") choices;
+  from = from_said choices;
+  to = to_said choices;
 })
 canonical_meaning (on_files command ontology queries is_owl) =
     meaning.on_files command ontology queries is_owl

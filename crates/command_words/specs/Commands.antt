@@ -84,8 +84,9 @@ files_app name =
 
 -- the command with its arguments, its options and its flags
 unfoldable pub app_of_command : CommandName → App
-app_of_command Watch = with_rule (with_rule (with_rule (files_app (codes "watch"))
-    (value_rule (codes "form"))) (value_rule (codes "report"))) (flag_rule (codes "sizes"))
+app_of_command Watch = with_rule (with_rule (with_rule (with_rule (with_rule
+    (files_app (codes "watch")) (value_rule (codes "form"))) (value_rule (codes "report")))
+    (flag_rule (codes "sizes"))) (value_rule (codes "from"))) (value_rule (codes "to"))
 app_of_command (OnFiles command) = files_app (files_word command)
 app_of_command Drill = places_app (codes "drill") (codes "seed") (codes "count")
 

@@ -24,7 +24,8 @@ use Rattle.command_words.specs.Commands.{are_taken, command_of, faults_in, rows_
 -- ---- what words ask for
 
 -- a watch: the names of its files, whether the ontology is an OWL 2 document, the form of its
--- stream, the form of its report, and whether the report tells the kept sizes
+-- stream, the form of its report, whether the report tells the kept sizes, and the files of the
+-- checkpoint from which it goes on and of the one that it stores
 pub record Watching : Type 0 where
   pub ontology : Text
   pub queries : Text
@@ -32,6 +33,8 @@ pub record Watching : Type 0 where
   pub form : StreamForm
   pub report : ReportForm
   pub sizes : Bool
+  pub from : Option Text
+  pub to : Option Text
 
 -- a watch, a command on an ontology and queries of these names, with whether the ontology is an
 -- OWL 2 document, or a drill of this seed and so many snapshots
@@ -57,6 +60,11 @@ is_file (x ∷ xs) = not (x == 45)
 abbrev pub file_of : Text → Option Text
 file_of word = if is_file word then Some word else None
 
+-- the file that an option's value names, and none where the option doesn't stand
+abbrev pub option_file_of : Option Text → Option (Option Text)
+option_file_of None = Some None
+option_file_of (Some word) = option_map Some (file_of word)
+
 -- the form of a stream that the word names
 abbrev pub stream_form_of : Text → Option StreamForm
 stream_form_of word = if bytes_eq word (codes "text") then Some stream.Text
@@ -73,6 +81,10 @@ report_form_of word = if bytes_eq word (codes "text") then Some (report.Lines li
 -- the file that an argument names
 unfoldable pub file_in : Text → List Row → Option Text
 file_in id rows = option_and_then file_of (first_of id rows)
+
+-- the file that an option names, where it stands
+unfoldable pub option_file_in : Text → List Row → Option (Option Text)
+option_file_in id rows = option_file_of (first_of id rows)
 
 -- the number that an argument says
 unfoldable pub number_in : ℕ → Text → List Row → Option ℕ
@@ -94,14 +106,18 @@ flag_in id rows = bytes_eq (unwrap_or (first_of id rows) (codes "false")) (codes
 abbrev pub watch_in : List Row → Option Watching
 watch_in rows =
     option_and_then (λ ontology. option_and_then (λ queries.
-    option_and_then (λ form. option_map (λ report. record {
+    option_and_then (λ form. option_and_then (λ report.
+    option_and_then (λ from. option_map (λ to. record {
       ontology = ontology;
       queries = queries;
       owl = flag_in (codes "owl") rows;
       form = form;
       report = report;
       sizes = flag_in (codes "sizes") rows;
-    }) (report_form_in rows)) (stream_form_in rows))
+      from = from;
+      to = to;
+    }) (option_file_in (codes "to") rows)) (option_file_in (codes "from") rows))
+    (report_form_in rows)) (stream_form_in rows))
     (file_in (codes "queries") rows)) (file_in (codes "ontology") rows)
 
 -- what the arguments of a command on files mean
@@ -142,6 +158,8 @@ watching_of w = record {
   form = w.form;
   report = w.report;
   sizes = w.sizes;
+  from = option_map (λ s. s.now) w.from;
+  to = option_map (λ s. s.now) w.to;
 }
 
 -- what a request asks for

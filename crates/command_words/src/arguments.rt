@@ -81,10 +81,14 @@ fn watch_command<'a>(alloc: Global) -> Result<Command<'a>, AllocError>
     let form = value_argument(alloc, "form");
     let report = value_argument(alloc, "report");
     let sizes = flag_argument(alloc, "sizes");
+    let from = value_argument(alloc, "from");
+    let to = value_argument(alloc, "to");
     two_files(alloc, "watch")?
         .arg(form)?
         .arg(report)?
-        .arg(sizes)
+        .arg(sizes)?
+        .arg(from)?
+        .arg(to)
 }
 
 /// The command of this name, with its arguments.

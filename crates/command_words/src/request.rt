@@ -11,7 +11,7 @@ pub enum WordsFault {
     Memory,
 }
 
-/// A watch: the names of its two files and its options.
+/// A watch: the names of its files and its options.
 #[derive(Clone, Copy, Debug, PartialEq, Eq)]
 pub struct Watch<'a> {
     pub ontology: &'a str,
@@ -22,6 +22,10 @@ pub struct Watch<'a> {
     pub report: ReportForm,
     /// Whether the report tells the kept sizes.
     pub sizes: bool,
+    /// The file of the checkpoint from which the watch goes on.
+    pub from: Option<&'a str>,
+    /// The file in which a checkpoint is stored.
+    pub to: Option<&'a str>,
 }
 
 /// A command on an ontology and queries whose one option says how the ontology is written.

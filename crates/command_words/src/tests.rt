@@ -22,6 +22,8 @@ fn watch_of(form: StreamForm, report: ReportForm, sizes: bool) -> Request<'stati
         form,
         report,
         sizes,
+        from: None,
+        to: None,
     })
 }
 
@@ -88,12 +90,53 @@ fn accepts_documents(rt: HostRuntime) -> Result<(), Fail> {
         form: StreamForm::Text,
         report: ReportForm::Lines(LineForm::Text),
         sizes: true,
+        from: None,
+        to: None,
     });
     for (line, request) in [
         ("watch O Q --sizes --owl", watch),
         ("watch --owl O Q --sizes", watch),
         ("rewrite O Q --owl", on_files(FilesCommand::Rewrite, true)),
         ("contain --owl O Q", on_files(FilesCommand::Contain, true)),
+    ] {
+        let words = words_of(rt.alloc(), line)?;
+        assert_eq!(rt; read_words(rt.alloc(), &words), Ok(request), "{line}");
+    }
+    Ok(())
+}
+
+/// A watch of O and Q with checkpoints, and no other option.
+fn resumed(from: Option<&'static str>, to: Option<&'static str>) -> Request<'static> {
+    Request::Watch(Watch {
+        ontology: "O",
+        queries: "Q",
+        owl: false,
+        form: StreamForm::Text,
+        report: ReportForm::Lines(LineForm::Text),
+        sizes: false,
+        from,
+        to,
+    })
+}
+
+#[test]
+fn accepts_checkpoints(rt: HostRuntime) -> Result<(), Fail> {
+    for (line, request) in [
+        ("watch O Q --from c1", resumed(Some("c1"), None)),
+        ("watch O Q --to c1", resumed(None, Some("c1"))),
+        (
+            "watch O Q --from c1 --to c2",
+            resumed(Some("c1"), Some("c2")),
+        ),
+        (
+            "watch O --to c2 Q --from c1",
+            resumed(Some("c1"), Some("c2")),
+        ),
+        (
+            "watch --from=c1 O Q --to=c1",
+            resumed(Some("c1"), Some("c1")),
+        ),
+        ("watch O Q --to O", resumed(None, Some("O"))),
     ] {
         let words = words_of(rt.alloc(), line)?;
         assert_eq!(rt; read_words(rt.alloc(), &words), Ok(request), "{line}");
@@ -127,8 +170,13 @@ fn refuses_other_words(rt: HostRuntime) -> Result<(), Fail> {
         "watch O Q --form=",
         "watch O Q --form=-json",
         "watch O Q --report xml",
-        "watch O Q --from c1",
-        "watch O Q --to c1",
+        "watch O Q --from c1 --from c1",
+        "watch O Q --to c1 --to c2",
+        "watch O Q --from",
+        "watch O Q --to=",
+        "watch O Q --to=-c1",
+        "watch O Q --from -c1",
+        "rewrite O Q --from c1",
         "watch O Q -h",
         "watch O Q --help",
         "watch O Q --version",

@@ -4,7 +4,8 @@ ghost use Rattle.std.specs.Prelude.{◌≡◌, ◌≤◌, MatchOption, codes, op
 ghost use Rattle.clap.specs.Words.{first_of, found_of, rows_of};
 ghost use Rattle.command_words.specs.Meanings.{IsWithinLimits, drill_in, file_in, file_of};
 ghost use Rattle.command_words.specs.Meanings.{flag_in, is_file, meaning_in, meaning_of, number_in};
-ghost use Rattle.command_words.specs.Meanings.{on_files_in, report_form_in, report_form_of};
+ghost use Rattle.command_words.specs.Meanings.{on_files_in, option_file_in, option_file_of};
+ghost use Rattle.command_words.specs.Meanings.{report_form_in, report_form_of};
 ghost use Rattle.command_words.specs.Meanings.{stream_form_in, stream_form_of, watch_in};
 ghost use Rattle.command_words.specs.Meanings.{watching_of};
 
@@ -55,6 +56,19 @@ fn file<'a>(matches: &ArgMatches<'a>, id: &str) -> Option<&'a str>
     match value(matches, id) {
         Some(word) if is_file(word) => Some(word),
         _ => None,
+    }
+}
+
+/// The file that an option names, where it stands.
+#[tactic(auto, unfolding(crate::specs::Meanings::option_file_in))]
+fn option_file<'a>(matches: &ArgMatches<'a>, id: &str) -> Option<Option<&'a str>>
+    ensures { option_map (option_map (λ s. s.now)) result
+        ≡ option_file_in id.now (rows_of (found_of matches.now)) }
+{
+    match value(matches, id) {
+        Some(word) if is_file(word) => Some(Some(word)),
+        Some(_) => None,
+        None => Some(None),
     }
 }
 
@@ -127,6 +141,8 @@ fn watch<'a>(matches: &ArgMatches<'a>) -> Option<Watch<'a>>
     let report = report_form(matches)?;
     let owl = flag(matches, "owl");
     let sizes = flag(matches, "sizes");
+    let from = option_file(matches, "from")?;
+    let to = option_file(matches, "to")?;
     Some(Watch {
         ontology,
         queries,
@@ -134,6 +150,8 @@ fn watch<'a>(matches: &ArgMatches<'a>) -> Option<Watch<'a>>
         form,
         report,
         sizes,
+        from,
+        to,
     })
 }
 
