@@ -7,3 +7,4 @@ pub mod Keeping
 pub mod Advancing
 pub mod Widening
 pub mod Standing
+pub mod Exchanging

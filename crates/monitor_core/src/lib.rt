@@ -10,6 +10,7 @@
 mod accept;
 mod accept_fault;
 mod declare;
+mod exchange;
 mod gathering;
 mod leaves;
 mod monitor;
@@ -21,6 +22,7 @@ mod tests;
 
 pub use accept_fault::AcceptFault;
 pub use declaring::DeclareFault;
+pub use exchange::RestingState;
 pub use monitor::Monitor;
 pub use opening::{check_reach, open, open_closed};
 pub use perfect_ref::RewriteFault as OpenFault;

@@ -126,7 +126,7 @@ fn plan_of(
 }
 
 /// The state before any snapshot.
-fn first_state(alloc: Global, queries: &[Query]) -> Result<State, Memory>
+pub(crate) fn first_state(alloc: Global, queries: &[Query]) -> Result<State, Memory>
     ensures state { IfOk result IsState }
     ensures count { IfOk result (λ state. state.count ≡ 0) }
     ensures kept { IfOk result (λ state. AllFresh queries.now state.kept.items) }
