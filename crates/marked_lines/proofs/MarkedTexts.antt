@@ -77,7 +77,8 @@ same_lines : (name : Text) (lines : List Text) (rest : Text) → IsPlain name �
 same_lines name [] rest plain are = refl
 same_lines name (line ∷ lines) rest plain are =
     let more = flat_map (marked_line name) lines ++ rest in
-    ap (unmarked name) (append_assoc (marked_line name line) (flat_map (marked_line name) lines) rest)
+    ap (unmarked name)
+    (append_assoc (marked_line name line) (flat_map (marked_line name) lines) rest)
     ∙ ap (flat_map (own name)) (marked_first name line more plain are.0)
     ∙ ap (λ (o : Option Text). ended_line o ++ unmarked name more) (behind_front (mark name) line)
     ∙ ap (λ (t : Text). ended line ++ t) (same_lines name lines rest plain are.1)
@@ -89,7 +90,8 @@ other_lines : (one other : Text) (lines : List Text) (rest : Text) → IsPlain o
 other_lines one other [] rest p q apart are = refl
 other_lines one other (line ∷ lines) rest p q apart are =
     let more = flat_map (marked_line other) lines ++ rest in
-    ap (unmarked one) (append_assoc (marked_line other line) (flat_map (marked_line other) lines) rest)
+    ap (unmarked one)
+    (append_assoc (marked_line other line) (flat_map (marked_line other) lines) rest)
     ∙ ap (flat_map (own one)) (marked_first other line more q are.0)
     ∙ ap (λ (o : Option Text). ended_line o ++ unmarked one more)
     (behind_other one other line p q apart)

@@ -211,7 +211,8 @@ module _ {State : Type 0} (step : Step State) (first : State) where
         Passes name (cond s (text line.rest ∷ []) []) before.streams after.streams told) [
           | true ↦ λ same. elim (is_one_too_many line.name (names_in before.streams)) as (λ t.
               is_one_too_many line.name (names_in before.streams) ≡ t →
-              MatchBool t (Refuses before number (codes "too-many-streams " ++ line.name) told after)
+              MatchBool t
+              (Refuses before number (codes "too-many-streams " ++ line.name) told after)
               (GoesOn step line.name line.rest (with_stream first line.name before.streams) told
               after.streams × (after.unowned ≡ before.unowned)) →
               Passes name (text line.rest ∷ []) before.streams after.streams told) [
@@ -219,7 +220,8 @@ module _ {State : Type 0} (step : Step State) (first : State) where
                 | false ↦ λ few g. same_line name before after line told plain same g.0
               ] refl p
           | false ↦ λ apart. elim (is_one_too_many line.name (names_in before.streams)) as (λ t.
-              MatchBool t (Refuses before number (codes "too-many-streams " ++ line.name) told after)
+              MatchBool t
+              (Refuses before number (codes "too-many-streams " ++ line.name) told after)
               (GoesOn step line.name line.rest (with_stream first line.name before.streams) told
               after.streams × (after.unowned ≡ before.unowned)) →
               Passes name [] before.streams after.streams told) [

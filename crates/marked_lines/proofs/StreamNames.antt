@@ -1,7 +1,8 @@
 -- The names of streams: each stands once, and they are the first that lines are marked with.
 use Rattle.std.proofs.Common.{◌≡◌, ◌≢◌, ℕ, suc, ◌+◌, ◌==◌, Bool, true, false, cond, List, [], ◌∷◌}
 use Rattle.std.proofs.Common.{◌++◌, length, refl, sym, ◌∙◌, ap, subst, inl, inr, take, drop, arith}
-use Rattle.std.specs.Prelude.{◌⊎◌, ◌||◌, ◌&&◌, not, nat_le, nat_lt, Option, None, Some, MatchBool, codes}
+use Rattle.std.specs.Prelude.{◌⊎◌, ◌||◌, ◌&&◌, not, nat_le, nat_lt, Option, None, Some, MatchBool}
+use Rattle.std.specs.Prelude.{codes}
 use Rattle.std.specs.List.{Contains, prefix_len}
 use Rattle.std.specs.Str.{bytes_eq}
 use Rattle.std.proofs.lemmas.List.{map-append}
@@ -39,9 +40,11 @@ not_byte b n other = grind arith
 
 letter_plain : (b : ℕ) → is_letter b ≡ true → ((b == 32) ≡ false) × ((b == 10) ≡ false)
 letter_plain b is = (
-  not_byte b 32 (λ same. let never : is_letter 32 ≡ true = subst (λ n. is_letter n ≡ true) same is in
+  not_byte b 32 (λ same. let never : is_letter 32 ≡ true =
+      subst (λ n. is_letter n ≡ true) same is in
       absurd cc),
-  not_byte b 10 (λ same. let never : is_letter 10 ≡ true = subst (λ n. is_letter n ≡ true) same is in
+  not_byte b 10 (λ same. let never : is_letter 10 ≡ true =
+      subst (λ n. is_letter n ≡ true) same is in
       absurd cc),
 )
 

@@ -2,7 +2,8 @@
 use Rattle.std.specs.Prelude.{◌≡◌, ℕ, List, [], ◌∷◌, ◌++◌, codes, decimal, flat_map}
 use Rattle.text_scan.specs.Lines.{lines_of}
 use Rattle.marked_lines.specs.declared.marking.Unowned.{Unowned}
-use Rattle.marked_lines.specs.declared.marking.Unowned.TheVariants.{TooLong, NoStream, TooManyStreams}
+use Rattle.marked_lines.specs.declared.marking.Unowned.TheVariants.{TooLong, NoStream}
+use Rattle.marked_lines.specs.declared.marking.Unowned.TheVariants.{TooManyStreams}
 
 abbrev pub Text : Type 0
 Text = List ℕ

@@ -1,0 +1,3 @@
+-- Lemmas, lowest first.
+pub mod Numbers
+pub mod TakingTurns
