@@ -1,0 +1,3 @@
+-- The definitions, lowest first.
+pub mod Report
+pub mod Laws

@@ -1,0 +1,5 @@
+//! The report of mixed streams: each line is marked with the name of its stream, and each stream is
+//! watched with a history of its own.
+#![tactic(auto)]
+
+pub mod laws;
