@@ -1,2 +1,6 @@
--- Lemmas.
+-- Lemmas, lowest first.
 pub mod Events
+pub mod Entering
+pub mod Going
+pub mod OneTurn
+pub mod Counting

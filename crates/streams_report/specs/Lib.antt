@@ -1,3 +1,4 @@
 -- The definitions, lowest first.
 pub mod Report
+pub mod Streaming
 pub mod Laws

@@ -3,3 +3,7 @@
 #![tactic(auto)]
 
 pub mod laws;
+mod one_line;
+mod streamer;
+
+pub use streamer::stream_mixed;
