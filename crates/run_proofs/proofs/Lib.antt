@@ -9,3 +9,4 @@ pub mod OneReading
 pub mod Places
 pub mod Names
 pub mod PrintedTexts
+pub mod WholeTexts

@@ -30,3 +30,9 @@ pub spaced : (out mid next text : List ℕ) → mid ≡ out ++ 32 ∷ [] → nex
     → next ≡ out ++ 32 ∷ text
 spaced out mid next text space rest =
     rest ∙ ap (λ (m : List ℕ). m ++ text) space ∙ append_assoc out (32 ∷ []) text
+
+-- a text before a newline
+pub ended : (out mid next text : List ℕ) → mid ≡ out ++ text → next ≡ mid ++ 10 ∷ []
+    → next ≡ out ++ (text ++ 10 ∷ [])
+ended out mid next text first rest =
+    rest ∙ ap (λ (m : List ℕ). m ++ 10 ∷ []) first ∙ append_assoc out text (10 ∷ [])

@@ -66,7 +66,7 @@ module _ (o : Declared) (facts run : List Fact) (is_run : Run o.inclusions facts
   goal_holds : (queries : List Tcq) (g : Goal) (e : Ending) → Ends o queries run g e
       → Holds o queries facts g
   goal_holds queries (goal.Answer query leaf row) (ending.Match elements) ends =
-      answer_holds (leaf_at queries query leaf) row elements.items ends
+      answer_holds (leaf_at queries query leaf) row elements ends
   goal_holds queries (goal.Answer query leaf row) (ending.Places first second) ends = absurd ends
   goal_holds queries (goal.Clash number) (ending.Match elements) ends = absurd ends
   goal_holds queries (goal.Clash number) (ending.Places first second) ends =
@@ -74,6 +74,6 @@ module _ (o : Declared) (facts run : List Fact) (is_run : Run o.inclusions facts
 
 pub shown_holds : ShownHolds
 shown_holds o queries proof shows =
-    goal_holds o proof.facts (run_after o.inclusions proof.facts proof.steps.items)
-    (steps_make_run o.inclusions proof.facts proof.facts proof.steps.items ([], start)) queries
+    goal_holds o proof.facts (run_after o.inclusions proof.facts proof.steps)
+    (steps_make_run o.inclusions proof.facts proof.facts proof.steps ([], start)) queries
     proof.goal proof.ending shows.ends

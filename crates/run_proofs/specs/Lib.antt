@@ -4,4 +4,6 @@ pub mod Assigned
 pub mod Shows
 pub mod Texts
 pub mod Writable
+pub mod Words
+pub mod Asking
 pub mod Laws

@@ -50,15 +50,15 @@ EndsClash None run first second = ⊥
 -- by the ending the run shows the goal
 abbrev pub Ends : Declared → List Tcq → List Fact → Goal → Ending → Type 0
 Ends o queries run (goal.Answer query leaf row) (ending.Match elements) =
-    EndsAnswer (leaf_at queries query leaf) run row elements.items
+    EndsAnswer (leaf_at queries query leaf) run row elements
 Ends o queries run (goal.Clash number) (ending.Places first second) =
     EndsClash (clash_of o.clashes number) run first second
 Ends o queries run _ _ = ⊥
 
 -- each step makes something, and by the ending the run that they lead to shows the goal
 pub record Shows (o : Declared) (queries : List Tcq) (proof : Proof) : Type 0 where
-  pub steps : AllMake o.inclusions proof.facts proof.steps.items
-  pub ends : Ends o queries (run_after o.inclusions proof.facts proof.steps.items) proof.goal
+  pub steps : AllMake o.inclusions proof.facts proof.steps
+  pub ends : Ends o queries (run_after o.inclusions proof.facts proof.steps) proof.goal
       proof.ending
 
 -- the row is a certain answer of the query over the facts

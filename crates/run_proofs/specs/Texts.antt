@@ -1,6 +1,7 @@
 -- A proof as lines of text.
 use Rattle.std.specs.Prelude.{◌≡◌, ℕ, ◌<◌, ◌^◌, List, [], ◌∷◌, ◌++◌, codes, decimal, flat_map, map}
 use Rattle.std.specs.Prelude.{length, slice_index_or, Option, Some, None, slice_get}
+use Rattle.dl_syntax.specs.declared.names.IndId.{IndId}
 use Rattle.dl_syntax.specs.declared.facts.Element.{Element}
 use Rattle.dl_syntax.specs.declared.facts.Element.TheVariants.{Ind as ind_element, Null}
 use Rattle.dl_syntax.specs.declared.facts.Fact.{Fact}
@@ -36,7 +37,7 @@ element_text names (Null number) = 42 ∷ decimal number
 
 abbrev pub ending_text : List Text → Ending → Text
 ending_text names (ending.Match elements) =
-    codes "match" ++ flat_map (λ e. 32 ∷ element_text names e) elements.items
+    codes "match" ++ flat_map (λ e. 32 ∷ element_text names e) elements
 ending_text names (ending.Places first second) = places_text first second
 
 abbrev pub query_name : Option Tcq → Text
@@ -47,10 +48,21 @@ query_name (Some query) = query.name
 abbrev pub clash_text : ℕ → Text
 clash_text number = codes "proof clash " ++ decimal number
 
+abbrev pub individual_text : List Text → IndId → Text
+individual_text names i = slice_index_or names i.0 []
+
+-- the names of the individuals, each after a space
+abbrev pub row_text : List Text → List IndId → Text
+row_text names row = flat_map (λ i. 32 ∷ individual_text names i) row
+
+-- what is to be shown of a row, by the name of the query and the place of the leaf
+abbrev pub answer_text : List Text → Text → ℕ → List IndId → Text
+answer_text names query leaf row =
+    codes "proof answer " ++ (query ++ (32 ∷ decimal leaf ++ row_text names row))
+
 abbrev pub goal_text : List Text → List Tcq → Goal → Text
 goal_text names queries (goal.Answer query leaf row) =
-    codes "proof answer " ++ query_name (slice_get queries query) ++ 32 ∷ decimal leaf
-    ++ flat_map (λ i. 32 ∷ slice_index_or names i.0 []) row
+    answer_text names (query_name (slice_get queries query)) leaf row
 goal_text names queries (goal.Clash number) = clash_text number
 
 abbrev pub fact_text : Declared → Fact → Text
@@ -69,7 +81,7 @@ abbrev pub lines_of_proof : Declared → List Tcq → Proof → List Text
 lines_of_proof o queries proof =
     goal_text o.individuals queries proof.goal
     ∷ snapshot_text o proof.facts
-    ∷ map step_text proof.steps.items
+    ∷ map step_text proof.steps
     ++ ending_text o.individuals proof.ending ∷ codes "end" ∷ []
 
 -- the text of a proof: each line and a newline

@@ -160,7 +160,7 @@ pub fn verify(
     queries: &[Query],
     proof: &Proof,
 ) -> Result<bool, Memory>
-    requires { length proof.now.facts + 2 * length proof.now.steps.items < 2 ^ 32 }
+    requires { length proof.now.facts + 2 * length proof.now.steps < 2 ^ 32 }
     ensures { IfOk result (λ yes. IsTrue yes ↔ Shows ontology.now queries.now proof.now) }
 {
     let mut run = Vec::from_slice(alloc, proof.facts.facts())?;

@@ -16,6 +16,7 @@ mod reading;
 #[cfg(test)]
 mod tests;
 mod variables;
+mod whole;
 mod writing;
 
 pub use checking::verify;
@@ -24,4 +25,5 @@ pub use printing::{append_ending, append_snapshot};
 pub use proof::{Ending, Goal, Proof, ProofStep};
 pub use reading::{read_clash, read_places, read_step};
 pub use variables::variables_of;
+pub use whole::{append_goal, append_proof};
 pub use writing::{append_clash, append_places, append_step};

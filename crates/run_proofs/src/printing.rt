@@ -13,7 +13,7 @@ use crate::writing::{append_number, append_places};
 use dl_syntax::{Element, Fact, Kind, Memory, Ontology};
 
 /// Appends the name of the number.
-fn append_name(
+pub(crate) fn append_name(
     out: &mut Vec<u8>,
     ontology: &Ontology,
     kind: Kind,

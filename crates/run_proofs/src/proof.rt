@@ -1,6 +1,6 @@
 //! Proofs by steps of the chase.
 
-use dl_syntax::{Element, Row, Snapshot};
+use dl_syntax::{Element, Items, Row, Snapshot};
 
 /// What a proof is to show.
 #[derive(Debug, Drop)]
@@ -24,7 +24,7 @@ pub struct ProofStep {
 #[derive(Debug, Drop)]
 pub enum Ending {
     /// An element for each variable of the leaf, in the rising order of the variables' numbers.
-    Match(Vec<Element>),
+    Match(Items<Element>),
     /// The places of two facts that put one element, or one pair, into the left and the right side
     /// of the clash.
     Places(u32, u32),
@@ -36,6 +36,6 @@ pub enum Ending {
 pub struct Proof {
     pub facts: Snapshot,
     pub goal: Goal,
-    pub steps: Vec<ProofStep>,
+    pub steps: Items<ProofStep>,
     pub ending: Ending,
 }

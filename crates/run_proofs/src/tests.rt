@@ -112,10 +112,11 @@ fn runs_itself() -> Fact
 /// places.
 fn shows_clash(alloc: Global, first: u32, second: u32) -> Option<bool> {
     let ontology = stated(alloc)?;
+    let steps = Vec::from_array(alloc, [step(0, 2), step(0, 3)]).ok()?;
     let proof = Proof {
         facts: snapshot_of(alloc, runs_itself()).ok()?,
         goal: Goal::Clash(1),
-        steps: Vec::from_array(alloc, [step(0, 2), step(0, 3)]).ok()?,
+        steps: Items::from_vec(steps),
         ending: Ending::Places(first, second),
     };
     verify(alloc, &ontology, &[], &proof).ok()
