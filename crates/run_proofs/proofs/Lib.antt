@@ -10,3 +10,8 @@ pub mod Places
 pub mod Names
 pub mod PrintedTexts
 pub mod WholeTexts
+pub mod Spread
+pub mod Spelled
+pub mod Cutting
+pub mod AskedLines
+pub mod OneLine

@@ -1,5 +1,6 @@
 -- Goals that are there, and the lines that tell none.
-use Rattle.std.specs.Prelude.{◌≡◌, ℕ, ◌<◌, ◌^◌, List, ◌∷◌, ◌++◌, codes, decimal, flat_map, IsSome, Some}
+use Rattle.std.specs.Prelude.{◌≡◌, ℕ, ◌<◌, ◌^◌, List, ◌∷◌, ◌++◌, codes, decimal, flat_map, IsSome}
+use Rattle.std.specs.Prelude.{slice_get}
 use Rattle.std.specs.List.{All}
 use Rattle.dl_syntax.specs.declared.names.IndId.{IndId}
 use Rattle.dl_syntax.specs.declared.facts.Element.{Element}
@@ -9,18 +10,18 @@ use Rattle.run_proofs.specs.declared.proof.Goal.{Goal}
 use Rattle.run_proofs.specs.declared.proof.Goal.TheVariants as goal
 use Rattle.run_proofs.specs.declared.proof.Ending.{Ending}
 use Rattle.run_proofs.specs.declared.proof.Ending.TheVariants as ending
-use Rattle.run_proofs.specs.Shows.{leaf_of_query, leaf_at, clash_of}
+use Rattle.run_proofs.specs.Shows.{leaf_at, clash_of}
 use Rattle.run_proofs.specs.Texts.{Text, element_text, row_text, ending_text, goal_text}
-use Rattle.run_proofs.specs.Texts.{IsWritable}
+use Rattle.run_proofs.specs.Texts.{clash_text, query_name, IsWritable}
 use Rattle.run_proofs.specs.Writable.{IsWritableRow}
 use Rattle.run_proofs.specs.Words.{EndsWord}
 
--- the goal is a leaf of one of the queries, of which the first so many have numbers, and a row of
--- declared individuals, or it is a clash
+-- the goal is a leaf of one of the queries and a row of declared individuals, or a clash, and its
+-- numbers fit
 abbrev pub IsAsked : Declared → List Tcq → Goal → Type 0
 IsAsked o queries (goal.Answer query leaf row) =
-    (query < 2 ^ 16) × IsSome (leaf_at queries query leaf) × IsWritableRow o row
-IsAsked o queries (goal.Clash number) = IsSome (clash_of o.clashes number)
+    (query < 2 ^ 16) × (leaf < 2 ^ 16) × IsSome (leaf_at queries query leaf) × IsWritableRow o row
+IsAsked o queries (goal.Clash number) = (number < 2 ^ 32) × IsSome (clash_of o.clashes number)
 
 -- no such goal is written so
 abbrev pub IsNoGoal : Declared → List Tcq → Text → Type 0
@@ -47,23 +48,27 @@ abbrev pub AreNoElements : List Text → Text → Type 0
 AreNoElements names text = (elements : List Element) → All (IsWritable names) elements
     → text ≡ flat_map (λ e. 32 ∷ element_text names e) elements → ⊥
 
--- the query's name and the place of one of its leaves, and what stands behind them
-pub record NamesLeaf (query : Tcq) (text : Text) (leaf : ℕ) (rest : Text) : Type 0 where
-  pub leaf_there : IsSome (leaf_of_query (Some query) leaf)
+-- no clash that is there
+abbrev pub IsNoKnownClash : Declared → Text → Type 0
+IsNoKnownClash o line = (number : ℕ) → number < 2 ^ 32 → IsSome (clash_of o.clashes number)
+    → line ≡ clash_text number → ⊥
+
+-- the name of the query with this number, the place of one of its leaves, and what stands behind
+pub record NamesLeaf (queries : List Tcq) (query : ℕ) (text : Text) (leaf : ℕ) (rest : Text)
+    : Type 0 where
+  pub small : leaf < 2 ^ 16
+  pub leaf_there : IsSome (leaf_at queries query leaf)
   pub ends : EndsWord rest
-  pub whole : text ≡ query.name ++ (32 ∷ decimal leaf ++ rest)
+  pub whole : text ≡ query_name (slice_get queries query) ++ (32 ∷ decimal leaf ++ rest)
 
 -- the text begins with no leaf of the query
-abbrev pub NamesNoLeaf : Tcq → Text → Type 0
-NamesNoLeaf query text = (leaf : ℕ) (rest : Text) → NamesLeaf query text leaf rest → ⊥
+abbrev pub NamesNoLeaf : List Tcq → ℕ → Text → Type 0
+NamesNoLeaf queries query text =
+    (leaf : ℕ) (rest : Text) → NamesLeaf queries query text leaf rest → ⊥
 
--- a leaf of the query and a row of declared individuals
-pub record NamesAnswer (o : Declared) (query : Tcq) (text : Text) (leaf : ℕ) (row : List IndId)
-    : Type 0 where
-  pub leaf_there : IsSome (leaf_of_query (Some query) leaf)
-  pub writable : IsWritableRow o row
-  pub whole : text ≡ query.name ++ (32 ∷ decimal leaf ++ row_text o.individuals row)
-
--- none
-abbrev pub NamesNoAnswer : Declared → Tcq → Text → Type 0
-NamesNoAnswer o query text = (leaf : ℕ) (row : List IndId) → NamesAnswer o query text leaf row → ⊥
+-- it is, behind the words, that of no answer of the query
+abbrev pub IsNoAnswerOf : Declared → List Tcq → ℕ → Text → Type 0
+IsNoAnswerOf o queries query text =
+    (leaf : ℕ) (row : List IndId) → IsAsked o queries (goal.Answer query leaf row)
+    → codes "proof answer " ++ text
+    ≡ goal_text o.individuals queries (goal.Answer query leaf row) → ⊥

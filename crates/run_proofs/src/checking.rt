@@ -73,7 +73,7 @@ fn leaf_in(node: &Node) -> Option<&Cq>
 }
 
 /// The query of the leaf, where there is one at the place.
-fn leaf_of(queries: &[Query], query: u16, leaf: u16) -> Option<&Cq>
+pub(crate) fn leaf_of(queries: &[Query], query: u16, leaf: u16) -> Option<&Cq>
     ensures same { option_map (λ q. q.now) result ≡ leaf_at queries.now query leaf }
     ensures bound { IfSome result (λ q. All (IsBound q.now.body) q.now.head) }
 {
@@ -87,7 +87,7 @@ fn leaf_of(queries: &[Query], query: u16, leaf: u16) -> Option<&Cq>
 }
 
 /// The clash of the number, counted from 1, where there is one.
-fn clash_at(ontology: &Ontology, number: u32) -> Option<&Clash>
+pub(crate) fn clash_at(ontology: &Ontology, number: u32) -> Option<&Clash>
     ensures { option_map (λ m. m.now) result ≡ clash_of ontology.now.clashes number }
 {
     if number == 0 {

@@ -1,6 +1,6 @@
 //! Laws of the definitions, each the contract of a function with nothing to do.
 ghost use Rattle.run_proofs.specs.Laws.{StepsMakeRun, RunsHaveSteps, ShownHolds, OneStep};
-ghost use Rattle.run_proofs.specs.Laws.{OnePairOfPlaces};
+ghost use Rattle.run_proofs.specs.Laws.{OnePairOfPlaces, OneGoal, OneEnding};
 
 /// Steps that name facts by their places lead from a run to a run.
 pub fn steps_make_run()
@@ -18,8 +18,11 @@ pub fn shown_holds()
     ensures { ShownHolds }
 {}
 
-/// A line tells one step, or one pair of places: what is written is read back as the same.
+/// A line tells one step, one pair of places, one goal or one ending: what is written is read back
+/// as the same.
 pub fn lines_tell_one()
     ensures step { OneStep }
     ensures places { OnePairOfPlaces }
+    ensures goal { OneGoal }
+    ensures ending { OneEnding }
 {}

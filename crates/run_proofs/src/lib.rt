@@ -6,9 +6,11 @@
 //! Journal of Automated Reasoning 39, 2007.
 #![tactic(auto)]
 
+mod asking;
 mod checking;
 mod elements;
 pub mod laws;
+mod listing;
 mod matching;
 mod printing;
 mod proof;
@@ -19,11 +21,12 @@ mod variables;
 mod whole;
 mod writing;
 
+pub use asking::{read_ending, read_goal};
 pub use checking::verify;
 pub use elements::read_element;
 pub use printing::{append_ending, append_snapshot};
 pub use proof::{Ending, Goal, Proof, ProofStep};
-pub use reading::{read_clash, read_places, read_step};
+pub use reading::{read_clash, read_places, read_step, rest_of};
 pub use variables::variables_of;
 pub use whole::{append_goal, append_proof};
 pub use writing::{append_clash, append_places, append_step};

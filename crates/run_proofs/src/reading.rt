@@ -72,8 +72,8 @@ fn begins_with(line: &[u8], word: &[u8]) -> bool
     &line[..word.len()] == word
 }
 
-/// The rest of a line that begins with the word.
-pub(crate) fn rest_of<'a>(line: &'a [u8], word: &[u8]) -> Option<&'a [u8]>
+/// The rest of a line that begins with the word, and `None` where it doesn't.
+pub fn rest_of<'a>(line: &'a [u8], word: &[u8]) -> Option<&'a [u8]>
     ensures { MatchOption result ((rest : List ℕ) → line.entry.now ≡ word.entry.now ++ rest
         → ⊥) (λ rest. line.entry.now ≡ word.entry.now ++ rest.now) }
 {

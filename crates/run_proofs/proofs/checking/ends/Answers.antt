@@ -6,6 +6,5 @@ returns-in-Answer-Match c =
       c.in-Answer-Match.is-0,
       c.in-Answer-Match.is-1,
       ← c.leaf_of-cq.ensures.same,
-      ←
-          c.as_slice.ensures.value,
+      ← c.as_slice.ensures,
     ) c.shows_answer.ensures

@@ -11,20 +11,20 @@ returns-then-not-branch c = (
   λ shows.
       let yes : c.in_ok-take_steps.field-0 ≡ true =
       c.in_ok-take_steps.ensures.make.1
-      (rw (c.as_slice.ensures.value, c.in_ok-run.ensures.items, c.facts.ensures.same)
+      (rw (c.as_slice.ensures, c.in_ok-run.ensures.items, c.facts.ensures.same)
       shows.steps) in
       cc,
 )
 
 made : (c : goal.After-drop-run-2)
-    → AllMake c.args.ontology.now.inclusions c.args.proof.now.facts c.args.proof.now.steps.items
-made c = rw (c.as_slice.ensures.value, c.in_ok-run.ensures.items, c.facts.ensures.same) at
+    → AllMake c.args.ontology.now.inclusions c.args.proof.now.facts c.args.proof.now.steps
+made c = rw (c.as_slice.ensures, c.in_ok-run.ensures.items, c.facts.ensures.same) at
     (c.in_ok-take_steps.ensures.make.0 c.if-not-branch.false)
 
 led : (c : goal.After-drop-run-2) → c.as_slice-2.result.now
-    ≡ run_after c.args.ontology.now.inclusions c.args.proof.now.facts c.args.proof.now.steps.items
+    ≡ run_after c.args.ontology.now.inclusions c.args.proof.now.facts c.args.proof.now.steps
 led c = c.as_slice-2.ensures.value ∙ (rw
-    (c.as_slice.ensures.value, c.in_ok-run.ensures.items, c.facts.ensures.same) at
+    (c.as_slice.ensures, c.in_ok-run.ensures.items, c.facts.ensures.same) at
     (c.in_ok-take_steps.ensures.run c.if-not-branch.false))
 
 pub returns : goal.returns
