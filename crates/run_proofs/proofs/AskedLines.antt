@@ -1,27 +1,23 @@
 -- What the lines of goals and endings tell.
-use Rattle.std.proofs.Common.{◌≡◌, ℕ, ◌<◌, ◌≤◌, ◌^◌, List, [], ◌∷◌, ◌++◌, length, codes}
-use Rattle.std.proofs.Common.{decimal, get_or, sym, ◌∙◌, ap, subst, arith, refl, Bool, true}
+use Rattle.std.proofs.Common.{◌≡◌, ℕ, ◌<◌, ◌≤◌, ◌^◌, List, ◌∷◌, ◌++◌, length, codes}
+use Rattle.std.proofs.Common.{decimal, sym, ◌∙◌, ap, subst, arith, refl, Bool, true}
 use Rattle.std.proofs.Common.{false}
 use Rattle.std.specs.Prelude.{Option, Some, None, IsSome, slice_get, nat_lt}
 use Rattle.std.proofs.lemmas.Bool.{ltb-true, ltb-false}
-use Rattle.std.specs.List.{All}
 use Rattle.std.proofs.lemmas.List.{append_cancel_left}
 use Rattle.std.proofs.lemmas.Option.{none-some, slice_get_past}
 use Rattle.std.proofs.lemmas.Fmt.{decimal_injective}
 use Rattle.dl_syntax.specs.Ontology.{Declared}
 use Rattle.dl_syntax.specs.declared.names.IndId.{IndId}
-use Rattle.dl_syntax.specs.declared.queries.Cq.{Cq}
 use Rattle.tcq_syntax.specs.Tcq.{Tcq}
-use Rattle.run_proofs.specs.declared.proof.Goal.{Goal}
 use Rattle.run_proofs.specs.declared.proof.Goal.TheVariants as goal
-use Rattle.run_proofs.specs.declared.proof.Ending.{Ending}
 use Rattle.run_proofs.specs.declared.proof.Ending.TheVariants as ending
 use Rattle.run_proofs.specs.Shows.{leaf_of_query, leaf_at}
-use Rattle.run_proofs.specs.Texts.{Text, row_text, goal_text, ending_text, query_name, places_text}
-use Rattle.run_proofs.specs.Texts.{individual_text, element_text, IsNoNumber, AreNoPlaces}
+use Rattle.run_proofs.specs.Texts.{Text, row_text, goal_text, query_name}
+use Rattle.run_proofs.specs.Texts.{individual_text, IsNoNumber, AreNoPlaces}
 use Rattle.run_proofs.specs.Words.{EndsWord}
 use Rattle.run_proofs.specs.Writable.{IsNamed, IsWritableRow}
-use Rattle.run_proofs.specs.Asking.{IsAsked, IsNoGoal, IsNoEnding, IsToldEnding, IsNoRow}
+use Rattle.run_proofs.specs.Asking.{IsAsked, IsNoGoal, IsNoEnding, IsNoRow}
 use Rattle.run_proofs.specs.Asking.{NamesLeaf, NamesNoLeaf, IsNoAnswerOf, IsNoKnownClash}
 use Rattle.run_proofs.specs.Asking.{AreNoElements}
 use Rattle.run_proofs.proofs.Words.{Free, decimal_free}

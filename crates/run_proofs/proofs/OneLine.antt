@@ -2,10 +2,10 @@
 use Rattle.std.proofs.Common.{◌≡◌, ◌≢◌, ℕ, ◌<◌, ◌≤◌, ◌^◌, List, [], ◌∷◌, ◌++◌, length, get_or}
 use Rattle.std.proofs.Common.{sym, ◌∙◌, ap, subst, arith, refl, inl, inr, codes, decimal}
 use Rattle.std.specs.Prelude.{◌⊎◌, Option, Some, None, IsSome, slice_get}
-use Rattle.std.specs.List.{All, AllPairs}
+use Rattle.std.specs.List.{AllPairs}
 use Rattle.std.proofs.lemmas.Bool.{cases_lt}
 use Rattle.std.proofs.lemmas.List.{append_cancel_left}
-use Rattle.std.proofs.lemmas.Option.{none-some, slice_get_within, get_or_from_slice_get}
+use Rattle.std.proofs.lemmas.Option.{slice_get_within, get_or_from_slice_get}
 use Rattle.std.proofs.lemmas.Fmt.{decimal_injective}
 use Rattle.list_lemmas.proofs.Elements.{AllPairs-back}
 use Rattle.dl_syntax.specs.Names.{IsName}
@@ -19,7 +19,7 @@ use Rattle.run_proofs.specs.declared.proof.Goal.TheVariants as goal
 use Rattle.run_proofs.specs.declared.proof.Ending.{Ending}
 use Rattle.run_proofs.specs.declared.proof.Ending.TheVariants as ending
 use Rattle.run_proofs.specs.Shows.{leaf_of_query, leaf_at}
-use Rattle.run_proofs.specs.Texts.{Text, element_text, individual_text, row_text, goal_text}
+use Rattle.run_proofs.specs.Texts.{element_text, individual_text, row_text, goal_text}
 use Rattle.run_proofs.specs.Texts.{ending_text, query_name, IsWritable}
 use Rattle.run_proofs.specs.Writable.{IsNamed, IsWritableRow}
 use Rattle.run_proofs.specs.Asking.{IsAsked, IsToldEnding}

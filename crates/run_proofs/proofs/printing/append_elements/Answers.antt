@@ -1,4 +1,4 @@
-use Rattle.std.proofs.Common.{[], ◌∷◌, ◌++◌, arith}
+use Rattle.std.proofs.Common.{◌∷◌, arith}
 use Rattle.run_proofs.specs.Texts.{element_text}
 use Rattle.run_proofs.proofs.PrintedTexts.{flat_more, flat_all, spaced}
 use Rattle.run_proofs.proofs.printing.append_elements.Goals as goal

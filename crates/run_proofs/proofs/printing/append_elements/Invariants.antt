@@ -1,6 +1,6 @@
-use Rattle.std.proofs.Common.{◌≡◌, ◌++◌, ◌∷◌, [], take}
-use Rattle.std.specs.Prelude.{flat_map, slice_index_or}
-use Rattle.run_proofs.specs.Texts.{fact_text, element_text, step_text}
+use Rattle.std.proofs.Common.{◌≡◌, ◌++◌, ◌∷◌, take}
+use Rattle.std.specs.Prelude.{flat_map}
+use Rattle.run_proofs.specs.Texts.{element_text}
 use Rattle.run_proofs.proofs.printing.append_elements.Given as goal
 
 abbrev pub invariant-loop-element : goal.invariant-loop-element

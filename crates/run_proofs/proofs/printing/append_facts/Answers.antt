@@ -1,4 +1,4 @@
-use Rattle.std.proofs.Common.{[], ◌∷◌, ◌++◌, arith}
+use Rattle.std.proofs.Common.{arith}
 use Rattle.run_proofs.specs.Texts.{fact_text}
 use Rattle.run_proofs.proofs.PrintedTexts.{flat_more, flat_all}
 use Rattle.run_proofs.proofs.printing.append_facts.Goals as goal
