@@ -1,7 +1,7 @@
 -- What the result of a step gives among facts the query before gives among them and what an
 -- inclusion makes of one of them, whatever number a null has.
-use Rattle.std.proofs.Common.{◌≡◌, ◌==◌, ℕ, ◌+◌, Bool, true, false, cond, List, [], ◌∷◌, ◌++◌}
-use Rattle.std.proofs.Common.{length, map, refl, sym, ◌∙◌, ap, ap₂, subst, arith, eq-eqb, inl, inr}
+use Rattle.std.proofs.Common.{◌≡◌, ◌==◌, ℕ, ◌+◌, Bool, true, cond, List, [], ◌∷◌, ◌++◌}
+use Rattle.std.proofs.Common.{map, refl, sym, ◌∙◌, ap, ap₂, subst, arith, eq-eqb}
 use Rattle.std.specs.List.{Contains}
 use Rattle.std.proofs.Math.ListN.{set}
 use Rattle.std.proofs.lemmas.List.Elements.{Contains-push}
@@ -9,7 +9,6 @@ use Rattle.dl_syntax.specs.declared.facts.Element.{Element}
 use Rattle.dl_syntax.specs.declared.facts.Element.TheVariants.{Null}
 use Rattle.dl_syntax.specs.declared.facts.Fact.{Fact}
 use Rattle.dl_syntax.specs.declared.facts.Fact.TheVariants as fact
-use Rattle.dl_syntax.specs.declared.ontology.Basic.{Basic}
 use Rattle.dl_syntax.specs.declared.ontology.Basic.TheVariants as basic
 use Rattle.dl_syntax.specs.declared.ontology.Inclusion.{Inclusion}
 use Rattle.dl_syntax.specs.declared.ontology.Inclusion.TheVariants as inclusion
@@ -17,14 +16,14 @@ use Rattle.dl_syntax.specs.declared.queries.Term.TheVariants.{Var}
 use Rattle.dl_syntax.specs.declared.queries.Atom.{Atom}
 use Rattle.dl_syntax.specs.declared.queries.Cq.{Cq}
 use Rattle.dl_syntax.specs.Facts.{In, role_fact}
-use Rattle.dl_syntax.specs.Chase.{Makes, made_by}
+use Rattle.dl_syntax.specs.Chase.{Makes}
 use Rattle.dl_syntax.specs.Match.{Match, Assignment, term_at, atom_at}
 use Rattle.dl_syntax.proofs.RunLaws.{made_is_fixed}
-use Rattle.query_unify.specs.Table.{count_in_term, count_in_atom, count_in_atoms, role_atom}
+use Rattle.query_unify.specs.Table.{count_in_term, count_in_atom, count_in_atoms}
 use Rattle.query_unify.specs.Table.{Becomes}
 use Rattle.query_unify.specs.Reach.{Replaces, Reduces}
 use Rattle.query_unify.specs.Laws.{Gives}
-use Rattle.proof_search.specs.Serving.{ServesBy, Serves}
+use Rattle.proof_search.specs.Serving.{Serves}
 use Rattle.query_unify.proofs.Backwards.{reduce_goes_back}
 use Rattle.query_unify.proofs.Matches.{Match-part, Match-whole, Match-longer, Match-sending}
 use Rattle.query_unify.proofs.Matches.{sending, term_at-sending, terms_at-sending}

@@ -1,8 +1,8 @@
 -- A partial assignment stands for the substitutions that extend it, and binding an atom to a fact
 -- keeps those that make the atom this fact.
 use Rattle.std.specs.Prelude.{◌≡◌, ℕ, List, [], ◌∷◌, ◌++◌, Bool, true, false, ◌==◌, Option, Some}
-use Rattle.std.specs.Prelude.{None, cond, refl, MatchOption, IsSome, is_some, unwrap_or}
-use Rattle.std.proofs.Common.{sym, ◌∙◌, ap, subst, inl, inr, arith, eq-eqb}
+use Rattle.std.specs.Prelude.{None, cond, refl, MatchOption, IsSome, unwrap_or}
+use Rattle.std.proofs.Common.{sym, ◌∙◌, ap, arith, eq-eqb}
 use Rattle.std.specs.Option.{option_and_then}
 use Rattle.std.proofs.lemmas.Bool.Decides.{nat_tests}
 use Rattle.dl_syntax.specs.declared.facts.Element.{Element}

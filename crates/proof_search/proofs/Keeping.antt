@@ -1,11 +1,10 @@
 -- What a step of an encoding makes is kept, once the inclusion for which it stands is applied.
-use Rattle.std.proofs.Common.{◌≡◌, ◌≢◌, ℕ, ◌+◌, ◌*◌, ◌<◌, ◌≤◌, List, [], ◌∷◌, ◌++◌, length, refl}
-use Rattle.std.proofs.Common.{sym, ◌∙◌, ap, subst, arith, inl, inr, length-append}
-use Rattle.std.specs.Prelude.{◌⊎◌, Some, None, slice_get, Option}
+use Rattle.std.proofs.Common.{◌≡◌, ℕ, ◌≤◌, List, [], ◌∷◌, ◌++◌, length, refl}
+use Rattle.std.proofs.Common.{sym, subst, arith, inl, inr}
+use Rattle.std.specs.Prelude.{◌⊎◌, Some, None, Option}
 use Rattle.std.specs.List.{All, Contains}
-use Rattle.std.proofs.lemmas.List.{append-nil}
 use Rattle.std.proofs.lemmas.List.Elements.{All-contains, Contains-append_left}
-use Rattle.std.proofs.lemmas.List.Elements.{Contains-append_right, Contains-append_cases}
+use Rattle.std.proofs.lemmas.List.Elements.{Contains-append_right}
 use Rattle.std.proofs.lemmas.List.Elements.{Contains-push}
 use Rattle.dl_syntax.specs.declared.names.ConceptId.{ConceptId}
 use Rattle.dl_syntax.specs.declared.facts.Element.{Element}
@@ -17,12 +16,11 @@ use Rattle.dl_syntax.specs.declared.ontology.Basic.{Basic}
 use Rattle.dl_syntax.specs.declared.ontology.Basic.TheVariants as basic
 use Rattle.dl_syntax.specs.declared.ontology.Inclusion.{Inclusion}
 use Rattle.dl_syntax.specs.declared.ontology.Inclusion.TheVariants as inclusion
-use Rattle.dl_syntax.specs.Facts.{In, Pair, role_fact, element_in, pair_in}
+use Rattle.dl_syntax.specs.Facts.{In, role_fact, element_in, pair_in}
 use Rattle.dl_syntax.specs.Chase.{Makes, made_by, made_of, basic_fact}
 use Rattle.dl_syntax.specs.Declaring.{IsDeclaredBasic, IsDeclaredInclusion, IsDeclaredFact}
-use Rattle.dl_syntax.specs.Encode.{encode, hidden, hidden_inverse}
-use Rattle.dl_syntax.specs.Growing.{inclusion_of}
-use Rattle.list_lemmas.proofs.Elements.{Contains-first, Contains-later, Contains-single}
+use Rattle.dl_syntax.specs.Encode.{encode, hidden}
+use Rattle.list_lemmas.proofs.Elements.{Contains-first, Contains-later}
 use Rattle.dl_syntax.proofs.FactLaws.{In-element_in, Pair-pair_in}
 use Rattle.dl_syntax.proofs.HiddenRoles.{Hides, Hides-above, Hides-listed, Hides-unique, told, Told}
 use Rattle.dl_syntax.proofs.HiddenRoles.{listed_concepts, listed_roles, hidden_start, hidden_pair}
@@ -31,7 +29,7 @@ use Rattle.dl_syntax.proofs.Images.{role_fact_declared, basic_fact_declared, Pai
 use Rattle.dl_syntax.proofs.Images.{In-declared}
 use Rattle.dl_syntax.proofs.RunLaws.{made_is_fixed}
 use Rattle.dl_syntax.proofs.Simulation.{Kept, kept_declared}
-use Rattle.proof_search.specs.Origin.{Starts, StandsFor, StandsForNone}
+use Rattle.proof_search.specs.Origin.{StandsFor, StandsForNone}
 
 -- either nothing is made, or what is made
 made_or_none : (i : Inclusion) (f : Fact) (place : ℕ)

@@ -7,5 +7,7 @@ pub mod Origins
 pub mod Keeping
 pub mod Members
 pub mod Walking
-pub mod Shown
+pub mod ShownRuns
 pub mod Serves
+pub mod Meeting
+pub mod Goals

@@ -1,5 +1,5 @@
 -- What a search for a match has found so far.
-use Rattle.std.specs.Prelude.{◌≡◌, ℕ, List, [], ◌∷◌, ◌++◌, Some, None, refl, ◌⊎◌, ◌↔◌, MatchOption}
+use Rattle.std.specs.Prelude.{◌≡◌, ℕ, List, [], ◌∷◌, ◌++◌, Some, None, refl, ◌↔◌, MatchOption}
 use Rattle.std.specs.Prelude.{◌<◌, length, map, Option, IsTrue, is_some, Vec}
 use Rattle.std.specs.Global.{Global}
 use Rattle.std.proofs.lemmas.List.{take_more}

@@ -1,8 +1,8 @@
 -- What a closure is to the query, and whether some member of it gives a row.
 use Rattle.std.proofs.Common.{◌≡◌, ℕ, ◌+◌, ◌<◌, List, map, length, get_or, take, sym, ◌∙◌, ap}
 use Rattle.std.proofs.Common.{subst}
-use Rattle.std.proofs.Common.{inl, inr, arith}
-use Rattle.std.specs.Prelude.{Option, Some, None, slice_get}
+use Rattle.std.proofs.Common.{inl, inr}
+use Rattle.std.specs.Prelude.{Some, None, slice_get}
 use Rattle.std.specs.List.{All}
 use Rattle.std.proofs.lemmas.List.{take_more}
 use Rattle.std.proofs.lemmas.List.Elements.{All-contains, Contains-push_cases}
@@ -23,7 +23,7 @@ use Rattle.worklist.specs.Reach.{IsClosure, ReachesMore}
 use Rattle.perfect_ref.specs.Plain.{HoldsOfMore}
 use Rattle.perfect_ref.proofs.Reached.{Lists-closure, HoldsOfMore-reaches}
 use Rattle.proof_search.specs.declared.reached.Reached.{Reached}
-use Rattle.proof_search.specs.Reached.{LeadsBy, IsLinked, AreLinked}
+use Rattle.proof_search.specs.Reached.{LeadsBy, AreLinked}
 use Rattle.proof_search.specs.Search.{IsRewriting}
 use Rattle.proof_search.specs.Serving.{Serves}
 use Rattle.proof_search.proofs.Back.{replace_back, reduce_back}

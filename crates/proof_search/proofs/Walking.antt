@@ -2,7 +2,7 @@
 use Rattle.std.proofs.Common.{◌≡◌, ◌≢◌, ℕ, zero, suc, ◌+◌, ◌*◌, ◌<◌, ◌≤◌, List, [], ◌∷◌, ◌++◌}
 use Rattle.std.proofs.Common.{length, refl}
 use Rattle.std.proofs.Common.{sym, ◌∙◌, ap, subst, arith, length-append, inl, inr}
-use Rattle.std.specs.Prelude.{Option, Some, None, slice_get}
+use Rattle.std.specs.Prelude.{Option, Some, slice_get}
 use Rattle.std.specs.List.{All, Contains}
 use Rattle.std.proofs.lemmas.List.{append-nil}
 use Rattle.std.proofs.lemmas.List.Elements.{Contains-append_cases}
@@ -10,14 +10,14 @@ use Rattle.std.proofs.lemmas.Option.{slice_get_within, none-some}
 use Rattle.dl_syntax.proofs.Simulation.{Kept}
 use Rattle.dl_syntax.specs.declared.facts.Fact.{Fact}
 use Rattle.dl_syntax.specs.declared.ontology.Inclusion.{Inclusion}
-use Rattle.dl_syntax.specs.Chase.{Makes, made_by}
+use Rattle.dl_syntax.specs.Chase.{made_by}
 use Rattle.dl_syntax.specs.Declaring.{IsDeclaredInclusion}
 use Rattle.dl_syntax.specs.Encode.{encode}
 use Rattle.dl_syntax.specs.Growing.{inclusion_of, made_of_both}
 use Rattle.dl_syntax.specs.Ontology.{Declared}
 use Rattle.list_lemmas.proofs.Elements.{Contains-single}
 use Rattle.run_proofs.specs.declared.proof.ProofStep.{ProofStep}
-use Rattle.run_proofs.specs.Growing.{made_in, run_after, AllMake}
+use Rattle.run_proofs.specs.Growing.{made_in, run_after}
 use Rattle.run_proofs.proofs.Steps.{made_short}
 use Rattle.run_proofs.proofs.Places.{one_more, all_and_one}
 use Rattle.proof_search.specs.Walk.{HasSteps, AreKept}

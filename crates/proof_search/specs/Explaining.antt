@@ -1,16 +1,32 @@
--- What the proof of an answer is made of.
+-- What shows that a row is a certain answer, or that a clash is met.
 use Rattle.std.specs.Prelude.{List}
 use Rattle.dl_syntax.specs.declared.names.IndId.{IndId}
-use Rattle.dl_syntax.specs.declared.facts.Element.{Element}
 use Rattle.dl_syntax.specs.declared.facts.Fact.{Fact}
+use Rattle.dl_syntax.specs.declared.ontology.Clash.{Clash}
 use Rattle.dl_syntax.specs.declared.queries.Cq.{Cq}
 use Rattle.dl_syntax.specs.Ontology.{Declared}
-use Rattle.run_proofs.specs.declared.proof.ProofStep.{ProofStep}
+use Rattle.run_proofs.specs.declared.proof.Ending.{Ending}
+use Rattle.run_proofs.specs.declared.proof.Ending.TheVariants as ending
 use Rattle.run_proofs.specs.Growing.{run_after, AllMake}
-use Rattle.run_proofs.specs.Matching.{IsMatch}
+use Rattle.run_proofs.specs.Matching.{IsMatch, MeetsAt}
+use Rattle.proof_search.specs.declared.showing.Shown.{Shown}
 
--- the steps lead to a run in which the elements are a match that makes the head the row
-abbrev pub ShowsAnswer : Declared → Cq → List Fact → List IndId → List ProofStep → List Element
-    → Type 0
-ShowsAnswer o q facts row steps elements = AllMake o.inclusions facts steps
-    × IsMatch q (run_after o.inclusions facts steps) row elements
+-- by the ending the run has a match that makes the head the row
+abbrev pub EndsWithMatch : Cq → List IndId → List Fact → Ending → Type 0
+EndsWithMatch q row run (ending.Match elements) = IsMatch q run row elements
+EndsWithMatch q row run (ending.Places first second) = ⊥
+
+-- by the ending the run has both sides of the clash
+abbrev pub EndsAtPlaces : Clash → List Fact → Ending → Type 0
+EndsAtPlaces m run (ending.Match elements) = ⊥
+EndsAtPlaces m run (ending.Places first second) = MeetsAt m run first second
+
+-- the steps lead from the facts to a run that has a match which makes the head the row
+abbrev pub AnswersBy : Declared → Cq → List Fact → List IndId → Shown → Type 0
+AnswersBy o q facts row shown = AllMake o.inclusions facts shown.steps.items
+    × EndsWithMatch q row (run_after o.inclusions facts shown.steps.items) shown.ending
+
+-- they lead to a run that has both sides of the clash
+abbrev pub MeetsBy : Declared → Clash → List Fact → Shown → Type 0
+MeetsBy o m facts shown = AllMake o.inclusions facts shown.steps.items
+    × EndsAtPlaces m (run_after o.inclusions facts shown.steps.items) shown.ending

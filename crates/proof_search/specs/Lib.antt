@@ -6,3 +6,4 @@ pub mod Serving
 pub mod Walk
 pub mod Search
 pub mod Explaining
+pub mod Goals

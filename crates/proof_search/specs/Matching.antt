@@ -1,5 +1,5 @@
 -- What a search for a match finds.
-use Rattle.std.specs.Prelude.{◌≡◌, List, ◌∷◌, map}
+use Rattle.std.specs.Prelude.{◌≡◌, List, map}
 use Rattle.std.specs.List.{Contains}
 use Rattle.dl_syntax.specs.declared.names.IndId.{IndId}
 use Rattle.dl_syntax.specs.declared.facts.Element.TheVariants.{Ind as ind_element}

@@ -1,5 +1,5 @@
 -- Which inclusion of an ontology one of its encoding stands for.
-use Rattle.std.specs.Prelude.{◌≡◌, ◌⊎◌, ℕ, suc, List, [], ◌∷◌, Some, Vec}
+use Rattle.std.specs.Prelude.{◌≡◌, ◌⊎◌, ℕ, List, Some}
 use Rattle.std.specs.List.{Contains}
 use Rattle.dl_syntax.specs.declared.names.ConceptId.{ConceptId}
 use Rattle.dl_syntax.specs.declared.ontology.Basic.{Basic}

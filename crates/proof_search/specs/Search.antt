@@ -1,5 +1,5 @@
 -- What a search for proofs is made for, and what it finds.
-use Rattle.std.specs.Prelude.{◌≡◌, ◌≤◌, ◌<◌, ℕ, List, Some, length, map, slice_get}
+use Rattle.std.specs.Prelude.{◌≡◌, List, Some, map, slice_get}
 use Rattle.dl_syntax.specs.declared.names.IndId.{IndId}
 use Rattle.dl_syntax.specs.declared.facts.Element.TheVariants.{Ind as ind_element}
 use Rattle.dl_syntax.specs.declared.facts.Fact.{Fact}

@@ -1,25 +1,30 @@
-//! The steps and the match that show a certain answer.
+//! The steps and the match that show a certain answer, and those that show a contradiction.
 
 ghost use Rattle.std.specs.Prelude.{◌≡◌, ◌≤◌, ◌<◌, ◌^◌, map, length, IfOk, IfSome, MatchOption};
+ghost use Rattle.dl_syntax.specs.Declaring.{IsDeclaredClash};
 ghost use Rattle.dl_syntax.specs.Queries.{IsQuery};
 ghost use Rattle.perfect_ref.specs.Plain.{encoded, Reachable, HoldsOfMore};
 ghost use Rattle.dl_syntax.specs.declared.facts.Element.TheVariants.{Ind as ind_element};
-ghost use Rattle.dl_syntax.specs.Encode.{IsOverOntology, IsQueryOver};
+ghost use Rattle.dl_syntax.specs.Encode.{IsOverOntology, IsQueryOver, IsMet};
 ghost use Rattle.dl_syntax.specs.Match.{Certain};
 ghost use Rattle.query_unify.specs.Laws.{Gives};
+ghost use Rattle.consistency.specs.Asking.{query_of};
 ghost use Rattle.run_proofs.specs.Matching.{IsMatch};
 ghost use Rattle.proof_search.specs.Bindings.{assigned_by};
-ghost use Rattle.proof_search.specs.Explaining.{ShowsAnswer};
+ghost use Rattle.proof_search.specs.Explaining.{AnswersBy, MeetsBy};
 ghost use Rattle.proof_search.specs.Search.{IsRewriting};
 
 use crate::bindings::Binding;
 use crate::fault::ProofFault;
 use crate::matching::{element_of, find_match};
+use crate::meets::meeting_shown;
 use crate::reached::Reached;
 use crate::search::{find_walk, rewriting};
+use crate::showing::Shown;
+use crate::sides::query;
 use crate::walk::Walk;
-use dl_syntax::{Cq, Element, Fact, IndId, Memory, Ontology};
-use run_proofs::{ProofStep, variables_of};
+use dl_syntax::{Clash, Cq, Element, Fact, IndId, Items, Memory, Ontology};
+use run_proofs::{Ending, variables_of};
 use std::alloc::Global;
 
 /// The elements of the variables.
@@ -58,7 +63,7 @@ fn answer_shown(
     reached: &Reached,
     facts: &[Fact],
     row: &[IndId],
-) -> Result<Option<(Vec<ProofStep>, Vec<Element>)>, Memory>
+) -> Result<Option<Shown>, Memory>
     requires declared { IsQueryOver ontology.now cq.now }
     requires rewriting { IsRewriting ontology.now cq.now reached.now }
     requires over { IsOverOntology ontology.now facts.now }
@@ -66,9 +71,9 @@ fn answer_shown(
     requires few { length reached.now.found.keys ≤ 2 ^ 30 }
     ensures exact { IfOk result (λ shown. MatchOption shown
         (Certain ontology.now.inclusions cq.now facts.now row.now → ⊥)
-        (λ p. ShowsAnswer ontology.now cq.now facts.now row.now p.0.items p.1.items)) }
+        (AnswersBy ontology.now cq.now facts.now row.now)) }
     ensures short { IfOk result (λ shown. IfSome shown
-        (λ p. length p.0.items < length reached.now.found.keys)) }
+        (λ s. length s.steps.items < length reached.now.found.keys)) }
 {
     let Some(walk) = find_walk(ontology, cq, reached, facts, row)? else {
         return Ok(None);
@@ -79,11 +84,14 @@ fn answer_shown(
         steps,
         known: _,
     } = walk;
-    Ok(Some((steps, elements)))
+    Ok(Some(Shown {
+        steps,
+        ending: Ending::Match(Items::from_vec(elements)),
+    }))
 }
 
-/// A search for the proofs of a query's answers, made once for many facts and rows: all that the
-/// query reaches by rewriting.
+/// A search for what shows a query's answers, made once for many facts and rows: all that the query
+/// reaches by rewriting.
 #[derive(Drop)]
 pub struct Search {
     reached: Reached,
@@ -107,6 +115,27 @@ impl Search {
         }
     }
 
+    /// The search for what shows that the clash is met, which is that of the clash's query.
+    pub fn of_clash(
+        alloc: Global,
+        ontology: &Ontology,
+        clash: &Clash,
+        room: u32,
+    ) -> Result<Search, ProofFault>
+        ensures rewriting { IfOk result (λ search.
+            IsRewriting ontology.now (query_of clash.now) search.reached) }
+        ensures few { IfOk result (λ search. length search.reached.found.keys ≤ room) }
+        ensures within { IfOk result (λ _.
+            HoldsOfMore (Reachable (encoded ontology.now) (query_of clash.now)) room → ⊥) }
+        ensures many { result ≡ Err ProofFault.TooManyRewritings
+            → HoldsOfMore (Reachable (encoded ontology.now) (query_of clash.now)) room }
+    {
+        match query(alloc, clash) {
+            Ok(query) => Search::new(alloc, ontology, &query, room),
+            Err(_) => Err(ProofFault::Memory),
+        }
+    }
+
     /// The steps of the chase and the match, an element for each variable in rising order, that
     /// show the row. They are fewer than the queries that are reached. There are none exactly where
     /// the row is no certain answer of the query over the facts.
@@ -116,7 +145,7 @@ impl Search {
         cq: &Cq,
         facts: &[Fact],
         row: &[IndId],
-    ) -> Result<Option<(Vec<ProofStep>, Vec<Element>)>, Memory>
+    ) -> Result<Option<Shown>, Memory>
         requires declared { IsQueryOver ontology.now cq.now }
         requires rewriting { IsRewriting ontology.now cq.now self.now.reached }
         requires over { IsOverOntology ontology.now facts.now }
@@ -124,10 +153,34 @@ impl Search {
         requires few { length self.now.reached.found.keys ≤ 2 ^ 30 }
         ensures exact { IfOk result (λ shown. MatchOption shown
             (Certain ontology.now.inclusions cq.now facts.now row.now → ⊥)
-            (λ p. ShowsAnswer ontology.now cq.now facts.now row.now p.0.items p.1.items)) }
+            (AnswersBy ontology.now cq.now facts.now row.now)) }
         ensures short { IfOk result (λ shown. IfSome shown
-            (λ p. length p.0.items < length self.now.reached.found.keys)) }
+            (λ s. length s.steps.items < length self.now.reached.found.keys)) }
     {
         answer_shown(ontology, cq, &self.reached, facts, row)
+    }
+
+    /// The steps of the chase and the places of two facts that show that the clash is met. They are
+    /// fewer than the queries that are reached. There are none exactly where no run of the facts
+    /// meets it.
+    pub fn meeting(
+        &self,
+        ontology: &Ontology,
+        clash: &Clash,
+        facts: &[Fact],
+    ) -> Result<Option<Shown>, Memory>
+        requires declared { IsDeclaredClash (length ontology.now.concepts)
+            (length ontology.now.roles) clash.now }
+        requires rewriting { IsRewriting ontology.now (query_of clash.now) self.now.reached }
+        requires over { IsOverOntology ontology.now facts.now }
+        requires room { length facts.now < 2 ^ 31 }
+        requires few { length self.now.reached.found.keys ≤ 2 ^ 30 }
+        ensures exact { IfOk result (λ shown. MatchOption shown
+            (IsMet ontology.now.inclusions facts.now clash.now → ⊥)
+            (MeetsBy ontology.now clash.now facts.now)) }
+        ensures short { IfOk result (λ shown. IfSome shown
+            (λ s. length s.steps.items < length self.now.reached.found.keys)) }
+    {
+        meeting_shown(ontology, clash, &self.reached, facts)
     }
 }

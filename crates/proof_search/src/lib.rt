@@ -7,9 +7,16 @@ mod closure;
 mod fault;
 mod made;
 mod matching;
+mod meets;
+mod naming;
+mod one_goal;
 mod reached;
 mod search;
+mod showing;
+mod sides;
 mod walk;
 
 pub use answer::Search;
 pub use fault::ProofFault;
+pub use one_goal::explain;
+pub use showing::Shown;

@@ -1,5 +1,5 @@
 use Rattle.perfect_ref.proofs.Reached.{if_ok_weaker}
-use Rattle.proof_search.proofs.Shown.{is_match_by}
+use Rattle.proof_search.proofs.ShownRuns.{is_match_by}
 use Rattle.proof_search.proofs.answer.match_of.Goals as goal
 
 pub returns-in-Some : goal.returns-in-Some

@@ -1,4 +1,4 @@
-use Rattle.std.proofs.Common.{◌≡◌, ℕ, arith, ap, length}
+use Rattle.std.proofs.Common.{arith, ap, length}
 use Rattle.query_unify.specs.Reach.{Step}
 use Rattle.dl_syntax.specs.contracts.queries.CqPartialEq.TheImpl as cq
 use Rattle.dl_syntax.specs.contracts.queries.CqEq.TheImpl.Laws as equal_queries

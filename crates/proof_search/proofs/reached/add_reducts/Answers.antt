@@ -1,5 +1,4 @@
 use Rattle.std.proofs.Common.{◌≡◌, ℕ, [], length, ap, subst, arith}
-use Rattle.query_unify.specs.Reach.{Reduces}
 use Rattle.perfect_ref.specs.Found.{Somewhere, IsReductAt}
 use Rattle.proof_search.specs.Reached.{Grows}
 use Rattle.proof_search.proofs.Growing.{grows_start, grows_next, at_still}

@@ -1,6 +1,5 @@
 use Rattle.std.proofs.Common.{List}
 use Rattle.dl_syntax.specs.declared.ontology.Inclusion.{Inclusion}
-use Rattle.query_unify.specs.Reach.{Reduces}
 use Rattle.perfect_ref.specs.Found.{Somewhere, IsReductAt}
 use Rattle.proof_search.specs.Reached.{Grows}
 use Rattle.proof_search.proofs.reached.add_reducts.Given as goal

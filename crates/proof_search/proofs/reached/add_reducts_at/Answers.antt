@@ -1,6 +1,6 @@
-use Rattle.std.proofs.Common.{◌≡◌, ℕ, [], length, ap, subst, arith}
+use Rattle.std.proofs.Common.{◌≡◌, ℕ, [], subst, arith}
 use Rattle.query_unify.specs.Reach.{Reduces}
-use Rattle.perfect_ref.specs.Found.{Somewhere, IsReductAt}
+use Rattle.perfect_ref.specs.Found.{Somewhere}
 use Rattle.proof_search.specs.Reached.{Grows}
 use Rattle.proof_search.proofs.Growing.{grows_start, grows_next, at_still}
 use Rattle.proof_search.proofs.reached.add_reducts_at.Goals as goal

@@ -1,7 +1,5 @@
-use Rattle.std.proofs.Common.{◌≡◌, arith, get_or}
-use Rattle.std.specs.Prelude.{Some, slice_get}
+use Rattle.std.proofs.Common.{arith}
 use Rattle.std.proofs.lemmas.Option.{slice_get-get_or}
-use Rattle.perfect_ref.specs.Found.{Somewhere}
 use Rattle.perfect_ref.proofs.Gained.{ByNumber}
 use Rattle.proof_search.proofs.Growing.{grows_start, grows_next, grows_number, grows_list}
 use Rattle.proof_search.proofs.Growing.{at_still, no_inclusion}

@@ -1,5 +1,4 @@
-use Rattle.std.proofs.Common.{◌∙◌, ap, map}
-use Rattle.proof_search.proofs.Shown.{known_gives, known_within}
+use Rattle.proof_search.proofs.ShownRuns.{known_gives, known_within}
 use Rattle.proof_search.proofs.search.begin.Goals as goal
 
 pub returns-clause-known : goal.returns-clause-known

@@ -1,4 +1,4 @@
-use Rattle.std.proofs.Common.{◌≡◌, arith}
+use Rattle.std.proofs.Common.{arith}
 use Rattle.proof_search.proofs.search.go_all.Goals as goal
 
 pub loop-at-init : goal.loop-at-init

@@ -1,5 +1,5 @@
 -- What is shown by known facts is shown by the run that keeps them.
-use Rattle.std.proofs.Common.{◌≡◌, ℕ, List, length, map, refl, sym, subst}
+use Rattle.std.proofs.Common.{◌≡◌, ℕ, List, length, map, sym, subst}
 use Rattle.std.specs.List.{All, Contains}
 use Rattle.std.proofs.lemmas.List.Elements.{All-contains, All-map}
 use Rattle.query_unify.specs.Laws.{Gives}
@@ -17,12 +17,12 @@ use Rattle.dl_syntax.specs.Match.{Assignment, Match, atom_at}
 use Rattle.dl_syntax.specs.Ontology.{Declared}
 use Rattle.list_lemmas.proofs.Elements.{All-from_contains}
 use Rattle.dl_syntax.proofs.Simulation.{kept_declared}
+use Rattle.run_proofs.specs.Growing.{run_after, AllMake}
 use Rattle.run_proofs.specs.Matching.{AreVariables, IsMatch}
 use Rattle.proof_search.specs.declared.bindings.Binding.{Binding}
 use Rattle.proof_search.specs.Bindings.{assigned_by}
 use Rattle.proof_search.specs.Matching.{IsMatchedBy}
 use Rattle.run_proofs.specs.declared.proof.ProofStep.{ProofStep}
-use Rattle.proof_search.specs.Explaining.{ShowsAnswer}
 use Rattle.proof_search.specs.Walk.{HasSteps, AreKept}
 
 atom_declared : (concepts roles : ℕ) (t : Assignment) (a : Atom) → IsDeclaredAtom concepts roles a
@@ -90,7 +90,8 @@ module _ (q : Cq) (facts : List Fact) (row : List IndId) (bs : List Binding) (kn
 pub shows_answer : (o : Declared) (q : Cq) (facts : List Fact) (row : List IndId)
     (steps : List ProofStep) (run known : List Fact) (elements : List Element) → IsQueryOver o q
     → HasSteps o facts steps run → AreKept o run known → IsMatch q known row elements
-    → ShowsAnswer o q facts row steps elements
+    → AllMake o.inclusions facts steps
+    × IsMatch q (run_after o.inclusions facts steps) row elements
 shows_answer o q facts row steps run known elements declared has kept m = (
   has.make,
   subst (λ (r : List Fact). IsMatch q r row elements) (sym has.leads)
