@@ -11,3 +11,4 @@ pub mod ShownRuns
 pub mod Serves
 pub mod Meeting
 pub mod Goals
+pub mod Alike

@@ -1,10 +1,13 @@
 -- What shows that a row is a certain answer, or that a clash is met.
-use Rattle.std.specs.Prelude.{List}
+use Rattle.std.specs.Prelude.{◌↔◌, List}
+use Rattle.std.specs.List.{Contains}
 use Rattle.dl_syntax.specs.declared.names.IndId.{IndId}
 use Rattle.dl_syntax.specs.declared.facts.Fact.{Fact}
 use Rattle.dl_syntax.specs.declared.ontology.Clash.{Clash}
 use Rattle.dl_syntax.specs.declared.queries.Cq.{Cq}
+use Rattle.dl_syntax.specs.Match.{Certain}
 use Rattle.dl_syntax.specs.Ontology.{Declared}
+use Rattle.dl_syntax.specs.Rows.{IsRising}
 use Rattle.run_proofs.specs.declared.proof.Ending.{Ending}
 use Rattle.run_proofs.specs.declared.proof.Ending.TheVariants as ending
 use Rattle.run_proofs.specs.Growing.{run_after, AllMake}
@@ -30,3 +33,13 @@ AnswersBy o q facts row shown = AllMake o.inclusions facts shown.steps.items
 abbrev pub MeetsBy : Declared → Clash → List Fact → Shown → Type 0
 MeetsBy o m facts shown = AllMake o.inclusions facts shown.steps.items
     × EndsAtPlaces m (run_after o.inclusions facts shown.steps.items) shown.ending
+
+-- the rows are the certain answers of the query over the facts, in rising order
+pub record AreCertainRows (o : Declared) (q : Cq) (facts : List Fact) (rows : List (List IndId))
+    : Type 0 where
+  pub rising : IsRising rows
+  pub member : (row : List IndId) → Contains rows row ↔ Certain o.inclusions q facts row
+
+-- both lists have the same facts
+abbrev pub HaveSame : List Fact → List Fact → Type 0
+HaveSame facts other = (f : Fact) → Contains facts f ↔ Contains other f

@@ -1,6 +1,8 @@
 //! The steps and the match that show a certain answer, and those that show a contradiction.
 
 ghost use Rattle.std.specs.Prelude.{◌≡◌, ◌≤◌, ◌<◌, ◌^◌, map, length, IfOk, IfSome, MatchOption};
+ghost use Rattle.std.specs.Prelude.{List};
+ghost use Rattle.dl_syntax.specs.declared.facts.Fact.{Fact as FactValue};
 ghost use Rattle.dl_syntax.specs.Declaring.{IsDeclaredClash};
 ghost use Rattle.dl_syntax.specs.Queries.{IsQuery};
 ghost use Rattle.perfect_ref.specs.Plain.{encoded, Reachable, HoldsOfMore};
@@ -11,7 +13,7 @@ ghost use Rattle.query_unify.specs.Laws.{Gives};
 ghost use Rattle.consistency.specs.Asking.{query_of};
 ghost use Rattle.run_proofs.specs.Matching.{IsMatch};
 ghost use Rattle.proof_search.specs.Bindings.{assigned_by};
-ghost use Rattle.proof_search.specs.Explaining.{AnswersBy, MeetsBy};
+ghost use Rattle.proof_search.specs.Explaining.{AnswersBy, MeetsBy, AreCertainRows, HaveSame};
 ghost use Rattle.proof_search.specs.Search.{IsRewriting};
 
 use crate::bindings::Binding;
@@ -23,9 +25,11 @@ use crate::search::{find_walk, rewriting};
 use crate::showing::Shown;
 use crate::sides::query;
 use crate::walk::Walk;
-use dl_syntax::{Clash, Cq, Element, Fact, IndId, Items, Memory, Ontology};
+use dl_syntax::{Clash, Cq, Element, Fact, IndId, Items, Memory, Ontology, Tuples};
+use fact_index::Index;
 use run_proofs::{Ending, variables_of};
 use std::alloc::Global;
+use ucq_join::answers;
 
 /// The elements of the variables.
 fn elements_of(
@@ -182,5 +186,23 @@ impl Search {
             (λ s. length s.steps.items < length self.now.reached.found.keys)) }
     {
         meeting_shown(ontology, clash, &self.reached, facts)
+    }
+
+    /// The certain answers of the query over the facts of the index, in rising order.
+    pub fn rows(&self, ontology: &Ontology, cq: &Cq, index: &Index) -> Result<Tuples, Memory>
+        requires query { IsQuery cq.now }
+        requires short { length cq.now.head ≤ 255 }
+        requires declared { IsQueryOver ontology.now cq.now }
+        requires rewriting { IsRewriting ontology.now cq.now self.now.reached }
+        ensures { IfOk result (λ rows. (facts : List FactValue) → IsOverOntology ontology.now facts
+            → HaveSame index.now facts → AreCertainRows ontology.now cq.now facts rows.rows) }
+    {
+        let arity = cq.head.as_slice().len() as u8;
+        answers(
+            self.reached.alloc,
+            index,
+            arity,
+            self.reached.found.as_slice(),
+        )
     }
 }
