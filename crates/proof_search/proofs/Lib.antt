@@ -12,3 +12,4 @@ pub mod Serves
 pub mod Meeting
 pub mod Goals
 pub mod Alike
+pub mod LeavesAt

@@ -7,3 +7,4 @@ pub mod Walk
 pub mod Search
 pub mod Explaining
 pub mod Goals
+pub mod Explainer
