@@ -1,6 +1,6 @@
 -- A monitor that goes on from what another kept.
-use Rattle.std.proofs.Common.{◌≡◌, ◌≤◌, ◌+◌, ◌-◌, ℕ, false, true, List, [], length, refl, sym, ◌∙◌, Bool}
-use Rattle.std.proofs.Common.{ap, subst, arith}
+use Rattle.std.proofs.Common.{◌≡◌, ◌≤◌, ◌+◌, ◌-◌, ℕ, false, true, List, [], length, refl, sym, ◌∙◌}
+use Rattle.std.proofs.Common.{Bool, ap, subst, arith}
 use Rattle.std.specs.Prelude.{not, drop, Vec}
 use Rattle.std.specs.Global.{Global}
 use Rattle.std.proofs.Common.{length-drop}
