@@ -13,8 +13,8 @@ use Rattle.clap.specs.declared.parser.matches.ValueSource.TheVariants.{DefaultVa
 use Rattle.clap.proofs.FaultLemmas.{leaf_fault}
 use Rattle.clap.proofs.OnLiterals.{clap_on_literals}
 use Rattle.command_words.specs.declared.names.CommandName.{CommandName}
-use Rattle.command_words.specs.declared.names.CommandName.TheVariants.{Watch, Rewrite, Contain}
-use Rattle.command_words.specs.declared.names.CommandName.TheVariants.{Audit, Drill}
+use Rattle.command_words.specs.declared.names.CommandName.TheVariants.{Watch, OnFiles, Drill}
+use Rattle.command_words.specs.declared.request.FilesCommand.{FilesCommand}
 use Rattle.command_words.specs.Commands.{app_of_command, faults_in, rows_in}
 use Rattle.command_words.specs.Meanings.{is_file}
 use Rattle.command_words.specs.Canonical.{AreOnce, Choice, option_word, option_words, owl}
@@ -32,17 +32,13 @@ arguments_are : (c : CommandName) (word : Text) (words : List Text)
     → argument_words (app_of_command c) (word ∷ words) ≡ words
 unfolding app_of_command
 arguments_are Watch word words = refl
-arguments_are Rewrite word words = refl
-arguments_are Contain word words = refl
-arguments_are Audit word words = refl
+arguments_are (OnFiles f) word words = refl
 arguments_are Drill word words = refl
 
 no_subs : (c : CommandName) → (built (app_of_command c)).subs ≡ []
 unfolding app_of_command clap_on_literals
 no_subs Watch = refl
-no_subs Rewrite = refl
-no_subs Contain = refl
-no_subs Audit = refl
+no_subs (OnFiles f) = refl
 no_subs Drill = refl
 
 -- ---- words that clap's exact function takes
@@ -147,78 +143,58 @@ numbers_are_taken a b first second = two_are_taken Drill a b [] first second ref
 
 -- ---- two files, and whether the ontology is an OWL 2 document
 
--- the commands whose only option is the flag
-pub data IsPlain : CommandName → Type 0 where
-  rewrites : IsPlain Rewrite
-  contains : IsPlain Contain
-  audits : IsPlain Audit
+held_flag : FilesCommand → Text → Text → Held
+held_flag f a b =
+    reacted (rules (OnFiles f)) (flag_built (codes "owl")) [] (held_places (OnFiles f) a b)
 
-held_flag : CommandName → Text → Text → Held
-held_flag c a b = reacted (rules c) (flag_built (codes "owl")) [] (held_places c a b)
-
-flag_passes : (c : CommandName) (a b : Text) → IsPlain c
-    → walk_fault (shape c) [] (stands (held_places c a b)) (option_word (codes "owl") ∷ []) ≡ []
+flag_passes : (f : FilesCommand) (a b : Text)
+    → walk_fault (shape (OnFiles f)) [] (stands (held_places (OnFiles f) a b))
+    (option_word (codes "owl") ∷ []) ≡ []
 unfolding rules walk_fault clap_on_literals
-flag_passes Rewrite a b rewrites = refl
-flag_passes Contain a b contains = refl
-flag_passes Audit a b audits = refl
-flag_passes Watch a b plain = elim plain [ ]
-flag_passes Drill a b plain = elim plain [ ]
+flag_passes f a b = refl
 
-flag_goes : (c : CommandName) (a b : Text) → IsPlain c
-    → fold (walked (rules c) []) (stands (held_places c a b)) (option_word (codes "owl") ∷ [])
-    ≡ stands (held_flag c a b)
+flag_goes : (f : FilesCommand) (a b : Text)
+    → fold (walked (rules (OnFiles f)) []) (stands (held_places (OnFiles f) a b))
+    (option_word (codes "owl") ∷ []) ≡ stands (held_flag f a b)
 unfolding rules held_flag walked clap_on_literals
-flag_goes Rewrite a b rewrites = refl
-flag_goes Contain a b contains = refl
-flag_goes Audit a b audits = refl
-flag_goes Watch a b plain = elim plain [ ]
-flag_goes Drill a b plain = elim plain [ ]
+flag_goes f a b = refl
 
-flag_settles : (c : CommandName) (a b : Text) → IsPlain c
-    → settle_fault (rules c) false (held_flag c a b) ≡ []
+flag_settles : (f : FilesCommand) (a b : Text)
+    → settle_fault (rules (OnFiles f)) false (held_flag f a b) ≡ []
 unfolding rules held_flag clap_on_literals
-flag_settles Rewrite a b rewrites = refl
-flag_settles Contain a b contains = refl
-flag_settles Audit a b audits = refl
-flag_settles Watch a b plain = elim plain [ ]
-flag_settles Drill a b plain = elim plain [ ]
+flag_settles f a b = refl
 
-flag_found : (c : CommandName) (a b : Text) → IsPlain c
-    → fold with_default (rows_at c (held_flag c a b)) (rules c)
-    ≡ place_rows c a b ++ row_of_choice owl ∷ []
+flag_found : (f : FilesCommand) (a b : Text)
+    → fold with_default (rows_at (OnFiles f) (held_flag f a b)) (rules (OnFiles f))
+    ≡ place_rows (OnFiles f) a b ++ row_of_choice owl ∷ []
 unfolding rules held_flag clap_on_literals
-flag_found Rewrite a b rewrites = refl
-flag_found Contain a b contains = refl
-flag_found Audit a b audits = refl
-flag_found Watch a b plain = elim plain [ ]
-flag_found Drill a b plain = elim plain [ ]
+flag_found f a b = refl
 
-defaults_found : (c : CommandName) (a b : Text) → IsPlain c
-    → with_flags c (place_rows c a b) ≡ place_rows c a b ++ default_row of_owl ∷ []
+defaults_found : (f : FilesCommand) (a b : Text)
+    → with_flags (OnFiles f) (place_rows (OnFiles f) a b)
+    ≡ place_rows (OnFiles f) a b ++ default_row of_owl ∷ []
 unfolding default_row
-defaults_found Rewrite a b rewrites = refl
-defaults_found Contain a b contains = refl
-defaults_found Audit a b audits = refl
-defaults_found Watch a b plain = elim plain [ ]
-defaults_found Drill a b plain = elim plain [ ]
+defaults_found f a b = refl
 
 -- the row of the flag, there or not
 abbrev pub owl_rows : Bool → List Row
 owl_rows is_owl = if is_owl then row_of_choice owl ∷ [] else default_row of_owl ∷ []
 
-pub files_are_taken : (c : CommandName) (a b : Text) (is_owl : Bool) → IsPlain c
-    → is_file a ≡ true → is_file b ≡ true
-    → Takes c (a ∷ b ∷ option_words (owl_choices is_owl)) (place_rows c a b ++ owl_rows is_owl)
-files_are_taken c a b false plain first second =
-    two_are_taken c a b (default_row of_owl ∷ []) first second (defaults_found c a b plain)
-files_are_taken c a b true plain first second = record {
-  end = held_flag c a b;
-  passes = words_pass c a b (option_word (codes "owl") ∷ []) first second (flag_passes c a b plain);
-  goes = walk_words c a b (option_word (codes "owl") ∷ []) first second ∙ flag_goes c a b plain;
-  settles = flag_settles c a b plain;
-  found = flag_found c a b plain;
-  checked = check_passes c a b (row_of_choice owl ∷ []);
+pub files_are_taken : (f : FilesCommand) (a b : Text) (is_owl : Bool) → is_file a ≡ true
+    → is_file b ≡ true
+    → Takes (OnFiles f) (a ∷ b ∷ option_words (owl_choices is_owl))
+    (place_rows (OnFiles f) a b ++ owl_rows is_owl)
+files_are_taken f a b false first second =
+    two_are_taken (OnFiles f) a b (default_row of_owl ∷ []) first second (defaults_found f a b)
+files_are_taken f a b true first second = record {
+  end = held_flag f a b;
+  passes = words_pass (OnFiles f) a b (option_word (codes "owl") ∷ []) first second
+      (flag_passes f a b);
+  goes = walk_words (OnFiles f) a b (option_word (codes "owl") ∷ []) first second
+      ∙ flag_goes f a b;
+  settles = flag_settles f a b;
+  found = flag_found f a b;
+  checked = check_passes (OnFiles f) a b (row_of_choice owl ∷ []);
 }
 
 -- ---- two files and the options of a watch

@@ -5,24 +5,19 @@ use Rattle.clap.specs.declared.error.Error.{Error}
 use Rattle.clap.specs.declared.error.kind.ErrorKind.TheVariants.{OutOfMemory}
 use Rattle.clap.proofs.OnLiterals.{clap_on_literals}
 use Rattle.command_words.specs.declared.names.CommandName.{CommandName}
-use Rattle.command_words.specs.declared.names.CommandName.TheVariants.{Watch, Rewrite, Contain}
-use Rattle.command_words.specs.declared.names.CommandName.TheVariants.{Audit, Drill}
+use Rattle.command_words.specs.declared.names.CommandName.TheVariants.{Watch, OnFiles, Drill}
 use Rattle.command_words.specs.Commands.{app_of_command}
 
 pub command_is_simple : (c : CommandName) → is_simple (app_of_command c) ≡ true
 unfolding app_of_command clap_on_literals
 command_is_simple Watch = refl
-command_is_simple Rewrite = refl
-command_is_simple Contain = refl
-command_is_simple Audit = refl
+command_is_simple (OnFiles f) = refl
 command_is_simple Drill = refl
 
 pub command_is_free : (c : CommandName) → is_simple_and_free (app_of_command c) ≡ true
 unfolding app_of_command clap_on_literals
 command_is_free Watch = refl
-command_is_free Rewrite = refl
-command_is_free Contain = refl
-command_is_free Audit = refl
+command_is_free (OnFiles f) = refl
 command_is_free Drill = refl
 
 -- an error that isn't of memory names a fault

@@ -6,15 +6,17 @@ use Rattle.std.specs.Str.{bytes_eq}
 use Rattle.std.proofs.lemmas.Bool.Decides.{nat_tests}
 use Rattle.clap.specs.Walk.{Row, Text, first_of, has_row}
 use Rattle.command_words.specs.declared.names.CommandName.{CommandName}
-use Rattle.command_words.specs.declared.names.CommandName.TheVariants.{Watch, Rewrite, Contain}
-use Rattle.command_words.specs.declared.names.CommandName.TheVariants.{Audit, Drill}
+use Rattle.command_words.specs.declared.names.CommandName.TheVariants.{Watch, OnFiles, Drill}
 use Rattle.forms.specs.declared.StreamForm.TheVariants as stream
 use Rattle.forms.specs.declared.LineForm.TheVariants as line
 use Rattle.forms.specs.declared.ReportForm.TheVariants as report
 use Rattle.command_words.specs.declared.request.Request.{Request}
 use Rattle.command_words.specs.declared.request.WordsFault.{WordsFault}
 use Rattle.command_words.specs.declared.request.WordsFault.TheVariants.{Usage, Memory}
-use Rattle.command_words.specs.Commands.{command_of, has_barred_word, is_barred_word}
+use Rattle.command_words.specs.declared.request.FilesCommand.{FilesCommand}
+use Rattle.command_words.specs.declared.request.FilesCommand.TheVariants.{Rewrite, Contain, Audit}
+use Rattle.command_words.specs.Commands.{command_named, command_of, files_word, has_barred_word}
+use Rattle.command_words.specs.Commands.{is_barred_word}
 use Rattle.command_words.specs.Meanings.{Answers, Meaning, file_in, is_file, meaning_in}
 use Rattle.command_words.specs.Meanings.{meaning_of_words, number_in, report_form_in}
 use Rattle.command_words.specs.Meanings.{flag_in, report_form_of, stream_form_in, stream_form_of}
@@ -28,11 +30,9 @@ use Rattle.command_words.proofs.Walking.{Flag, flag_name, of_owl, of_sizes, repo
 use Rattle.command_words.proofs.Walking.{stream_word_is_file}
 use Rattle.command_words.proofs.RowsFound.{chosen, first_chosen, or_parts, place_rows}
 use Rattle.command_words.proofs.RowsFound.{row_of_choice}
-use Rattle.command_words.proofs.Accepted.{IsPlain, Takes, added, audits, contains}
-use Rattle.command_words.proofs.Accepted.{default_row}
-use Rattle.command_words.proofs.Accepted.{files_are_taken, flags_added, no_faults}
-use Rattle.command_words.proofs.Accepted.{numbers_are_taken, option_rows, options_are_taken}
-use Rattle.command_words.proofs.Accepted.{owl_rows, rewrites, rows_are}
+use Rattle.command_words.proofs.Accepted.{Takes, added, default_row, files_are_taken}
+use Rattle.command_words.proofs.Accepted.{flags_added, no_faults, numbers_are_taken, option_rows}
+use Rattle.command_words.proofs.Accepted.{options_are_taken, owl_rows, rows_are}
 use Rattle.command_words.proofs.MeaningLemmas.{meaning_is, named_is}
 
 -- ---- the command is named
@@ -56,35 +56,25 @@ unfolding command_of
 watch_is_named a b cs first second =
     rw (file_is_fine a first, file_is_fine b second, options_are_fine cs)
 
-rewrite_is_named : (a b : Text) (is_owl : Bool) → is_file a ≡ true → is_file b ≡ true
-    → command_of (codes "rewrite" ∷ a ∷ b ∷ option_words (owl_choices is_owl)) ≡ Some Rewrite
-unfolding command_of
-rewrite_is_named a b is_owl first second =
-    rw (
-      file_is_fine a first,
-      file_is_fine b second,
-      options_are_fine (owl_choices is_owl),
-    )
+files_word_is_free : (f : FilesCommand) → (is_barred_word (files_word f) ≡ false)
+    × (command_named (files_word f) ≡ Some (OnFiles f))
+files_word_is_free Rewrite = (refl, refl)
+files_word_is_free Contain = (refl, refl)
+files_word_is_free Audit = (refl, refl)
 
-contain_is_named : (a b : Text) (is_owl : Bool) → is_file a ≡ true → is_file b ≡ true
-    → command_of (codes "contain" ∷ a ∷ b ∷ option_words (owl_choices is_owl)) ≡ Some Contain
+on_files_is_named : (f : FilesCommand) (a b : Text) (is_owl : Bool) → is_file a ≡ true
+    → is_file b ≡ true
+    → command_of (files_word f ∷ a ∷ b ∷ option_words (owl_choices is_owl)) ≡ Some (OnFiles f)
 unfolding command_of
-contain_is_named a b is_owl first second =
+on_files_is_named f a b is_owl first second =
+    let word = files_word_is_free f in
     rw (
+      word.0,
       file_is_fine a first,
       file_is_fine b second,
       options_are_fine (owl_choices is_owl),
     )
-
-audit_is_named : (a b : Text) (is_owl : Bool) → is_file a ≡ true → is_file b ≡ true
-    → command_of (codes "audit" ∷ a ∷ b ∷ option_words (owl_choices is_owl)) ≡ Some Audit
-unfolding command_of
-audit_is_named a b is_owl first second =
-    rw (
-      file_is_fine a first,
-      file_is_fine b second,
-      options_are_fine (owl_choices is_owl),
-    )
+    word.1
 
 drill_is_named : (a b : Text) → is_file a ≡ true → is_file b ≡ true
     → command_of (codes "drill" ∷ a ∷ b ∷ []) ≡ Some Drill
@@ -261,49 +251,22 @@ watch_means a b cs first second =
       sizes_are a b cs,
     )
 
-flag_is : (c : CommandName) (a b : Text) (is_owl : Bool) → IsPlain c
-    → flag_in (codes "owl") (place_rows c a b ++ owl_rows is_owl) ≡ is_owl
+flag_is : (f : FilesCommand) (a b : Text) (is_owl : Bool)
+    → flag_in (codes "owl") (place_rows (OnFiles f) a b ++ owl_rows is_owl) ≡ is_owl
 unfolding flag_in default_row
-flag_is Rewrite a b true rewrites = refl
-flag_is Rewrite a b false rewrites = refl
-flag_is Contain a b true contains = refl
-flag_is Contain a b false contains = refl
-flag_is Audit a b true audits = refl
-flag_is Audit a b false audits = refl
-flag_is Watch a b is_owl plain = elim plain [ ]
-flag_is Drill a b is_owl plain = elim plain [ ]
+flag_is f a b true = refl
+flag_is f a b false = refl
 
-rewrite_means : (a b : Text) (is_owl : Bool) → is_file a ≡ true → is_file b ≡ true
-    → meaning_in Rewrite (place_rows Rewrite a b ++ owl_rows is_owl)
-    ≡ Some (canonical_meaning (said.rewrite a b is_owl))
+on_files_means : (f : FilesCommand) (a b : Text) (is_owl : Bool) → is_file a ≡ true
+    → is_file b ≡ true
+    → meaning_in (OnFiles f) (place_rows (OnFiles f) a b ++ owl_rows is_owl)
+    ≡ Some (canonical_meaning (said.on_files f a b is_owl))
 unfolding meaning_in
-rewrite_means a b is_owl first second =
+on_files_means f a b is_owl first second =
     rw (
       ontology_is a b (owl_rows is_owl) first,
       queries_is a b (owl_rows is_owl) second,
-      flag_is Rewrite a b is_owl rewrites,
-    )
-
-contain_means : (a b : Text) (is_owl : Bool) → is_file a ≡ true → is_file b ≡ true
-    → meaning_in Contain (place_rows Contain a b ++ owl_rows is_owl)
-    ≡ Some (canonical_meaning (said.contain a b is_owl))
-unfolding meaning_in
-contain_means a b is_owl first second =
-    rw (
-      ontology_is a b (owl_rows is_owl) first,
-      queries_is a b (owl_rows is_owl) second,
-      flag_is Contain a b is_owl contains,
-    )
-
-audit_means : (a b : Text) (is_owl : Bool) → is_file a ≡ true → is_file b ≡ true
-    → meaning_in Audit (place_rows Audit a b ++ owl_rows is_owl)
-    ≡ Some (canonical_meaning (said.audit a b is_owl))
-unfolding meaning_in
-audit_means a b is_owl first second =
-    rw (
-      ontology_is a b (owl_rows is_owl) first,
-      queries_is a b (owl_rows is_owl) second,
-      flag_is Audit a b is_owl audits,
+      flag_is f a b is_owl,
     )
 
 seed_is : (a b : Text) (n : ℕ) → n ≤ 2147483647 → a ≡ decimal n
@@ -335,21 +298,11 @@ canonical_means (said.watch a b cs) good =
     taken_mean Watch (codes "watch") (a ∷ b ∷ option_words cs) _ _
     (watch_is_named a b cs good.0 good.1) (options_are_taken a b cs good.0 good.1 good.2)
     (watch_means a b cs good.0 good.1)
-canonical_means (said.rewrite a b is_owl) good =
-    taken_mean Rewrite (codes "rewrite") (a ∷ b ∷ option_words (owl_choices is_owl)) _ _
-    (rewrite_is_named a b is_owl good.0 good.1)
-    (files_are_taken Rewrite a b is_owl rewrites good.0 good.1)
-    (rewrite_means a b is_owl good.0 good.1)
-canonical_means (said.contain a b is_owl) good =
-    taken_mean Contain (codes "contain") (a ∷ b ∷ option_words (owl_choices is_owl)) _ _
-    (contain_is_named a b is_owl good.0 good.1)
-    (files_are_taken Contain a b is_owl contains good.0 good.1)
-    (contain_means a b is_owl good.0 good.1)
-canonical_means (said.audit a b is_owl) good =
-    taken_mean Audit (codes "audit") (a ∷ b ∷ option_words (owl_choices is_owl)) _ _
-    (audit_is_named a b is_owl good.0 good.1)
-    (files_are_taken Audit a b is_owl audits good.0 good.1)
-    (audit_means a b is_owl good.0 good.1)
+canonical_means (said.on_files f a b is_owl) good =
+    taken_mean (OnFiles f) (files_word f) (a ∷ b ∷ option_words (owl_choices is_owl)) _ _
+    (on_files_is_named f a b is_owl good.0 good.1)
+    (files_are_taken f a b is_owl good.0 good.1)
+    (on_files_means f a b is_owl good.0 good.1)
 canonical_means (said.drill seed count) good =
     let first = decimal_is_file seed (omega (arith, good.0)) in
     let second = decimal_is_file count (omega (arith, good.1)) in

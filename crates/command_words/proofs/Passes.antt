@@ -9,8 +9,7 @@ use Rattle.clap.specs.Walk.{with_default}
 use Rattle.clap.specs.Faults.{check_fault, defaults_fault, settle_fault, turn_fault, walk_fault}
 use Rattle.clap.proofs.OnLiterals.{clap_on_literals}
 use Rattle.command_words.specs.declared.names.CommandName.{CommandName}
-use Rattle.command_words.specs.declared.names.CommandName.TheVariants.{Watch, Rewrite, Contain}
-use Rattle.command_words.specs.declared.names.CommandName.TheVariants.{Audit, Drill}
+use Rattle.command_words.specs.declared.names.CommandName.TheVariants.{Watch, OnFiles, Drill}
 use Rattle.command_words.specs.Meanings.{is_file}
 use Rattle.command_words.specs.Canonical.{AreOnce, Choice, form, name_of, option_word, option_words}
 use Rattle.command_words.specs.Canonical.{owl, report_as, report_word, sizes, stream_word}
@@ -122,27 +121,22 @@ first_passes : (c : CommandName) (a : Text) → is_file a ≡ true
     → turn_fault (shape c) [] (walk_from nothing_held) a ≡ []
 unfolding rules clap_on_literals
 first_passes Watch a file = let plain = file_is_plain a file in rw (plain.2, plain.0, plain.1)
-first_passes Rewrite a file = let plain = file_is_plain a file in rw (plain.2, plain.0, plain.1)
-first_passes Contain a file = let plain = file_is_plain a file in rw (plain.2, plain.0, plain.1)
-first_passes Audit a file = let plain = file_is_plain a file in rw (plain.2, plain.0, plain.1)
+first_passes (OnFiles f) a file = let plain = file_is_plain a file in rw (plain.2, plain.0, plain.1)
 first_passes Drill a file = let plain = file_is_plain a file in rw (plain.2, plain.0, plain.1)
 
 second_passes : (c : CommandName) (a b : Text) → is_file b ≡ true
     → turn_fault (shape c) [] (stands_first c a) b ≡ []
 unfolding rules clap_on_literals
 second_passes Watch a b file = let plain = file_is_plain b file in rw (plain.2, plain.0, plain.1)
-second_passes Rewrite a b file = let plain = file_is_plain b file in rw (plain.2, plain.0, plain.1)
-second_passes Contain a b file = let plain = file_is_plain b file in rw (plain.2, plain.0, plain.1)
-second_passes Audit a b file = let plain = file_is_plain b file in rw (plain.2, plain.0, plain.1)
+second_passes (OnFiles f) a b file =
+    let plain = file_is_plain b file in rw (plain.2, plain.0, plain.1)
 second_passes Drill a b file = let plain = file_is_plain b file in rw (plain.2, plain.0, plain.1)
 
 pub places_settle : (c : CommandName) (a b : Text)
     → settle_fault (rules c) false (held_places c a b) ≡ []
 unfolding rules clap_on_literals
 places_settle Watch a b = refl
-places_settle Rewrite a b = refl
-places_settle Contain a b = refl
-places_settle Audit a b = refl
+places_settle (OnFiles f) a b = refl
 places_settle Drill a b = refl
 
 pub words_pass : (c : CommandName) (a b : Text) (rest : List Text) → is_file a ≡ true
@@ -169,27 +163,21 @@ or_true false = refl
 pub defaults_pass : (c : CommandName) (rows : List Row) → defaults_fault rows (rules c) ≡ []
 unfolding rules clap_on_literals
 defaults_pass Watch rows = simp (or_true, same_either)
-defaults_pass Rewrite rows = simp (or_true, same_either)
-defaults_pass Contain rows = simp (or_true, same_either)
-defaults_pass Audit rows = simp (or_true, same_either)
+defaults_pass (OnFiles f) rows = simp (or_true, same_either)
 defaults_pass Drill rows = simp (or_true, same_either)
 
 -- the rows with the flags' defaults, which are the only ones
 abbrev pub with_flags : CommandName → List Row → List Row
 with_flags Watch rows =
     with_default (with_default rows (flag_built (codes "owl"))) (flag_built (codes "sizes"))
-with_flags Rewrite rows = with_default rows (flag_built (codes "owl"))
-with_flags Contain rows = with_default rows (flag_built (codes "owl"))
-with_flags Audit rows = with_default rows (flag_built (codes "owl"))
+with_flags (OnFiles f) rows = with_default rows (flag_built (codes "owl"))
 with_flags Drill rows = rows
 
 pub finished_is : (c : CommandName) (rows : List Row)
     → fold with_default rows (rules c) ≡ with_flags c rows
 unfolding rules clap_on_literals
 finished_is Watch rows = simp same_either
-finished_is Rewrite rows = simp same_either
-finished_is Contain rows = simp same_either
-finished_is Audit rows = simp same_either
+finished_is (OnFiles f) rows = simp same_either
 finished_is Drill rows = simp same_either
 
 -- both words are there
@@ -197,7 +185,5 @@ pub check_passes : (c : CommandName) (a b : Text) (tail : List Row)
     → check_fault (shape c) (place_rows c a b ++ tail) false ≡ []
 unfolding rules clap_on_literals
 check_passes Watch a b tail = refl
-check_passes Rewrite a b tail = refl
-check_passes Contain a b tail = refl
-check_passes Audit a b tail = refl
+check_passes (OnFiles f) a b tail = refl
 check_passes Drill a b tail = refl

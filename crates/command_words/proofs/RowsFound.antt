@@ -10,8 +10,7 @@ use Rattle.clap.specs.Walk.{settled, without}
 use Rattle.clap.specs.declared.builder.value_parser.Reading.{Reading}
 use Rattle.clap.specs.declared.parser.matches.ValueSource.TheVariants.{CommandLine}
 use Rattle.command_words.specs.declared.names.CommandName.{CommandName}
-use Rattle.command_words.specs.declared.names.CommandName.TheVariants.{Watch, Rewrite, Contain}
-use Rattle.command_words.specs.declared.names.CommandName.TheVariants.{Audit, Drill}
+use Rattle.command_words.specs.declared.names.CommandName.TheVariants.{Watch, OnFiles, Drill}
 use Rattle.command_words.specs.Canonical.{AreOnce, Choice, form, has_name, name_of, report_as}
 use Rattle.command_words.specs.Canonical.{report_word, sizes, owl, stream_word}
 use Rattle.command_words.proofs.Walking.{Valued, by_id, first_id, flag_built, held_after}
@@ -145,9 +144,7 @@ pub rows_of_places : (c : CommandName) (a b : Text)
     → rows_at c (held_places c a b) ≡ place_rows c a b
 unfolding rules
 rows_of_places Watch a b = refl
-rows_of_places Rewrite a b = refl
-rows_of_places Contain a b = refl
-rows_of_places Audit a b = refl
+rows_of_places (OnFiles f) a b = refl
 rows_of_places Drill a b = refl
 
 is_fresh : (c : Choice) (a b : Text) → has_row (name_of c) (place_rows Watch a b) ≡ false

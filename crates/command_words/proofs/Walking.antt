@@ -8,14 +8,14 @@ use Rattle.clap.specs.Walk.{option, reacted, settled, used, walk_from, walked}
 use Rattle.clap.specs.Simple.{Shape, built, filled, names_of, new_shape, with_index}
 use Rattle.clap.proofs.OnLiterals.{clap_on_literals}
 use Rattle.command_words.specs.declared.names.CommandName.{CommandName}
-use Rattle.command_words.specs.declared.names.CommandName.TheVariants.{Watch, Rewrite, Contain}
-use Rattle.command_words.specs.declared.names.CommandName.TheVariants.{Audit, Drill}
+use Rattle.command_words.specs.declared.names.CommandName.TheVariants.{Watch, OnFiles, Drill}
 use Rattle.forms.specs.declared.StreamForm.{StreamForm}
 use Rattle.forms.specs.declared.StreamForm.TheVariants as stream
 use Rattle.forms.specs.declared.ReportForm.{ReportForm}
 use Rattle.forms.specs.declared.LineForm.TheVariants as line
 use Rattle.forms.specs.declared.ReportForm.TheVariants as report
-use Rattle.command_words.specs.Commands.{app_of_command, flag_rule, place_rule, value_rule}
+use Rattle.command_words.specs.Commands.{app_of_command, files_word, flag_rule, place_rule}
+use Rattle.command_words.specs.Commands.{value_rule}
 use Rattle.command_words.specs.Meanings.{is_file}
 use Rattle.command_words.specs.Canonical.{Choice, form, report_as, sizes, owl, option_word}
 use Rattle.command_words.specs.Canonical.{option_words, report_word, stream_word}
@@ -33,32 +33,24 @@ flag_built name = with_index 3 (filled (flag_rule name))
 
 abbrev pub first_id : CommandName → Text
 first_id Watch = codes "ontology"
-first_id Rewrite = codes "ontology"
-first_id Contain = codes "ontology"
-first_id Audit = codes "ontology"
+first_id (OnFiles f) = codes "ontology"
 first_id Drill = codes "seed"
 
 abbrev pub second_id : CommandName → Text
 second_id Watch = codes "queries"
-second_id Rewrite = codes "queries"
-second_id Contain = codes "queries"
-second_id Audit = codes "queries"
+second_id (OnFiles f) = codes "queries"
 second_id Drill = codes "count"
 
 abbrev pub command_name : CommandName → Text
 command_name Watch = codes "watch"
-command_name Rewrite = codes "rewrite"
-command_name Contain = codes "contain"
-command_name Audit = codes "audit"
+command_name (OnFiles f) = files_word f
 command_name Drill = codes "drill"
 
 abbrev option_rules : CommandName → List Rule
 option_rules Watch =
     flag_built (codes "owl") ∷ value_built (codes "form") ∷ value_built (codes "report")
     ∷ flag_built (codes "sizes") ∷ []
-option_rules Rewrite = flag_built (codes "owl") ∷ []
-option_rules Contain = flag_built (codes "owl") ∷ []
-option_rules Audit = flag_built (codes "owl") ∷ []
+option_rules (OnFiles f) = flag_built (codes "owl") ∷ []
 option_rules Drill = []
 
 unfoldable pub rules : CommandName → List Rule
@@ -76,17 +68,13 @@ shape c = record (new_shape (command_name c)) {
 pub shape_is : (c : CommandName) → (built (app_of_command c)).top ≡ shape c
 unfolding app_of_command rules clap_on_literals
 shape_is Watch = refl
-shape_is Rewrite = refl
-shape_is Contain = refl
-shape_is Audit = refl
+shape_is (OnFiles f) = refl
 shape_is Drill = refl
 
 pub no_names : (c : CommandName) → names_of (built (app_of_command c)) ≡ []
 unfolding app_of_command clap_on_literals
 no_names Watch = refl
-no_names Rewrite = refl
-no_names Contain = refl
-no_names Audit = refl
+no_names (OnFiles f) = refl
 no_names Drill = refl
 
 -- ---- words that may name a file
@@ -259,18 +247,15 @@ pub first_step : (c : CommandName) (a : Text) → is_file a ≡ true
     → walked (rules c) [] (walk_from nothing_held) a ≡ stands_first c a
 unfolding walked rules clap_on_literals
 first_step Watch a file = let plain = file_is_plain a file in rw (plain.2, plain.0, plain.1)
-first_step Rewrite a file = let plain = file_is_plain a file in rw (plain.2, plain.0, plain.1)
-first_step Contain a file = let plain = file_is_plain a file in rw (plain.2, plain.0, plain.1)
-first_step Audit a file = let plain = file_is_plain a file in rw (plain.2, plain.0, plain.1)
+first_step (OnFiles f) a file = let plain = file_is_plain a file in rw (plain.2, plain.0, plain.1)
 first_step Drill a file = let plain = file_is_plain a file in rw (plain.2, plain.0, plain.1)
 
 pub second_step : (c : CommandName) (a b : Text) → is_file b ≡ true
     → walked (rules c) [] (stands_first c a) b ≡ stands (held_places c a b)
 unfolding walked rules clap_on_literals
 second_step Watch a b file = let plain = file_is_plain b file in rw (plain.2, plain.0, plain.1)
-second_step Rewrite a b file = let plain = file_is_plain b file in rw (plain.2, plain.0, plain.1)
-second_step Contain a b file = let plain = file_is_plain b file in rw (plain.2, plain.0, plain.1)
-second_step Audit a b file = let plain = file_is_plain b file in rw (plain.2, plain.0, plain.1)
+second_step (OnFiles f) a b file =
+    let plain = file_is_plain b file in rw (plain.2, plain.0, plain.1)
 second_step Drill a b file = let plain = file_is_plain b file in rw (plain.2, plain.0, plain.1)
 
 pub walk_words : (c : CommandName) (a b : Text) (rest : List Text) → is_file a ≡ true

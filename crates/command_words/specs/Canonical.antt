@@ -9,12 +9,13 @@ use Rattle.forms.specs.declared.StreamForm.TheVariants as stream
 use Rattle.forms.specs.declared.ReportForm.{ReportForm}
 use Rattle.forms.specs.declared.LineForm.TheVariants as line
 use Rattle.forms.specs.declared.ReportForm.TheVariants as report
+use Rattle.command_words.specs.declared.request.FilesCommand.{FilesCommand}
 use Rattle.command_words.specs.declared.request.Request.{Request}
 use Rattle.command_words.specs.declared.request.WordsFault.{WordsFault}
 use Rattle.command_words.specs.declared.request.WordsFault.TheVariants.{Memory}
-use Rattle.command_words.specs.Meanings.{Meaning, is_file, meaning_of, watch as watches}
-use Rattle.command_words.specs.Meanings.{rewrite as rewrites, contain as contains}
-use Rattle.command_words.specs.Meanings.{audit as audits, drill as drills}
+use Rattle.command_words.specs.Commands.{files_word}
+use Rattle.command_words.specs.Meanings.{Meaning, is_file, meaning_of}
+use Rattle.command_words.specs.Meanings as meaning
 
 -- an option of a watch, with its value
 pub data Choice : Type 0 where
@@ -23,13 +24,10 @@ pub data Choice : Type 0 where
   sizes : Choice
   owl : Choice
 
--- the command with what follows its name. A rewriting, a test of containment and an audit have one
--- option, which stands or not
+-- the command with what follows its name. The one option of a command on files stands or not
 pub data Canonical : Type 0 where
   watch : Text → Text → List Choice → Canonical
-  rewrite : Text → Text → Bool → Canonical
-  contain : Text → Text → Bool → Canonical
-  audit : Text → Text → Bool → Canonical
+  on_files : FilesCommand → Text → Text → Bool → Canonical
   drill : ℕ → ℕ → Canonical
 
 -- ---- the words
@@ -72,12 +70,8 @@ owl_choices is_owl = if is_owl then owl ∷ [] else []
 abbrev pub canonical_words : Canonical → List Text
 canonical_words (watch ontology queries choices) =
     codes "watch" ∷ ontology ∷ queries ∷ option_words choices
-canonical_words (rewrite ontology queries is_owl) =
-    codes "rewrite" ∷ ontology ∷ queries ∷ option_words (owl_choices is_owl)
-canonical_words (contain ontology queries is_owl) =
-    codes "contain" ∷ ontology ∷ queries ∷ option_words (owl_choices is_owl)
-canonical_words (audit ontology queries is_owl) =
-    codes "audit" ∷ ontology ∷ queries ∷ option_words (owl_choices is_owl)
+canonical_words (on_files command ontology queries is_owl) =
+    files_word command ∷ ontology ∷ queries ∷ option_words (owl_choices is_owl)
 canonical_words (drill seed count) = codes "drill" ∷ decimal seed ∷ decimal count ∷ []
 
 -- ---- which are canonical
@@ -96,9 +90,8 @@ AreOnce (choice ∷ rest) = (has_name (name_of choice) rest ≡ false) × AreOnc
 abbrev pub IsCanonical : Canonical → Type 0
 IsCanonical (watch ontology queries choices) = (is_file ontology ≡ true) × (is_file queries ≡ true)
     × AreOnce choices
-IsCanonical (rewrite ontology queries is_owl) = (is_file ontology ≡ true) × (is_file queries ≡ true)
-IsCanonical (contain ontology queries is_owl) = (is_file ontology ≡ true) × (is_file queries ≡ true)
-IsCanonical (audit ontology queries is_owl) = (is_file ontology ≡ true) × (is_file queries ≡ true)
+IsCanonical (on_files command ontology queries is_owl) =
+    (is_file ontology ≡ true) × (is_file queries ≡ true)
 IsCanonical (drill seed count) = (seed ≤ 2147483647) × (count ≤ 100000)
 
 -- ---- what they say
@@ -121,7 +114,7 @@ report_said (owl ∷ rest) = report_said rest
 
 -- what the canonical words mean
 abbrev pub canonical_meaning : Canonical → Meaning
-canonical_meaning (watch ontology queries choices) = watches (record {
+canonical_meaning (watch ontology queries choices) = meaning.watch (record {
   ontology = ontology;
   queries = queries;
   owl = has_name (codes "owl") choices;
@@ -129,10 +122,9 @@ canonical_meaning (watch ontology queries choices) = watches (record {
   report = report_said choices;
   sizes = has_name (codes "sizes") choices;
 })
-canonical_meaning (rewrite ontology queries is_owl) = rewrites ontology queries is_owl
-canonical_meaning (contain ontology queries is_owl) = contains ontology queries is_owl
-canonical_meaning (audit ontology queries is_owl) = audits ontology queries is_owl
-canonical_meaning (drill seed count) = drills seed count
+canonical_meaning (on_files command ontology queries is_owl) =
+    meaning.on_files command ontology queries is_owl
+canonical_meaning (drill seed count) = meaning.drill seed count
 
 -- the answer is this meaning, or want of memory
 abbrev pub IsMeant : Meaning → Result Request WordsFault → Type 0

@@ -1,6 +1,6 @@
 -- The commands, and what clap makes of the words of each.
 use Rattle.std.specs.Prelude.{◌||◌, Bool, true, List, [], ◌∷◌, Option, Some, None, codes}
-use Rattle.std.specs.Prelude.{if◌then◌else◌, map, String, string_bytes}
+use Rattle.std.specs.Prelude.{if◌then◌else◌, map, option_map, String, string_bytes}
 use Rattle.std.specs.declared.alloc.Global.{Global}
 use Rattle.std.specs.List.{list_any}
 use Rattle.std.specs.Str.{bytes_eq}
@@ -9,8 +9,9 @@ use Rattle.clap.specs.Words.{takes, with_rule}
 use Rattle.clap.specs.Simple.{on_top}
 use Rattle.clap.specs.declared.builder.action.ArgAction.TheVariants.{SetTrue}
 use Rattle.command_words.specs.declared.names.CommandName.{CommandName}
-use Rattle.command_words.specs.declared.names.CommandName.TheVariants.{Watch, Rewrite, Contain}
-use Rattle.command_words.specs.declared.names.CommandName.TheVariants.{Audit, Drill}
+use Rattle.command_words.specs.declared.names.CommandName.TheVariants.{Watch, OnFiles, Drill}
+use Rattle.command_words.specs.declared.request.FilesCommand.{FilesCommand}
+use Rattle.command_words.specs.declared.request.FilesCommand.TheVariants.{Rewrite, Contain, Audit}
 
 -- the words as texts
 abbrev pub texts_of : List (String Global) → List Text
@@ -18,13 +19,23 @@ texts_of = map (λ word. string_bytes word)
 
 -- ---- which command
 
+-- the word that names a command on files
+abbrev pub files_word : FilesCommand → Text
+files_word Rewrite = codes "rewrite"
+files_word Contain = codes "contain"
+files_word Audit = codes "audit"
+
+-- the command on files that the word names
+abbrev pub files_named : Text → Option FilesCommand
+files_named word = if bytes_eq word (files_word Rewrite) then Some Rewrite
+    else (if bytes_eq word (files_word Contain) then Some Contain
+    else (if bytes_eq word (files_word Audit) then Some Audit else None))
+
 -- the command of this name
 abbrev pub command_named : Text → Option CommandName
 command_named word = if bytes_eq word (codes "watch") then Some Watch
-    else (if bytes_eq word (codes "rewrite") then Some Rewrite
-    else (if bytes_eq word (codes "contain") then Some Contain
-    else (if bytes_eq word (codes "audit") then Some Audit
-    else (if bytes_eq word (codes "drill") then Some Drill else None))))
+    else (if bytes_eq word (codes "drill") then Some Drill
+    else option_map OnFiles (files_named word))
 
 -- the command that the first word names
 abbrev pub first_command : List Text → Option CommandName
@@ -75,9 +86,7 @@ files_app name =
 unfoldable pub app_of_command : CommandName → App
 app_of_command Watch = with_rule (with_rule (with_rule (files_app (codes "watch"))
     (value_rule (codes "form"))) (value_rule (codes "report"))) (flag_rule (codes "sizes"))
-app_of_command Rewrite = files_app (codes "rewrite")
-app_of_command Contain = files_app (codes "contain")
-app_of_command Audit = files_app (codes "audit")
+app_of_command (OnFiles command) = files_app (files_word command)
 app_of_command Drill = places_app (codes "drill") (codes "seed") (codes "count")
 
 -- ---- clap's exact function of a simple command, which reads the words after the first

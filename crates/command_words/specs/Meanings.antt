@@ -12,6 +12,7 @@ use Rattle.forms.specs.declared.StreamForm.TheVariants as stream
 use Rattle.forms.specs.declared.ReportForm.{ReportForm}
 use Rattle.forms.specs.declared.LineForm.TheVariants as line
 use Rattle.forms.specs.declared.ReportForm.TheVariants as report
+use Rattle.command_words.specs.declared.request.FilesCommand.{FilesCommand}
 use Rattle.command_words.specs.declared.request.Watch.{Watch}
 use Rattle.command_words.specs.declared.request.Request.{Request}
 use Rattle.command_words.specs.declared.request.Request.TheVariants as request
@@ -32,22 +33,17 @@ pub record Watching : Type 0 where
   pub report : ReportForm
   pub sizes : Bool
 
--- a watch, a rewriting of the queries by the ontology of these files, a test of the containment of
--- these queries under this ontology, an audit of models by these files, or a drill of this seed and
--- so many snapshots. All but a drill also say whether the ontology is an OWL 2 document
+-- a watch, a command on an ontology and queries of these names, with whether the ontology is an
+-- OWL 2 document, or a drill of this seed and so many snapshots
 pub data Meaning : Type 0 where
   watch : Watching → Meaning
-  rewrite : Text → Text → Bool → Meaning
-  contain : Text → Text → Bool → Meaning
-  audit : Text → Text → Bool → Meaning
+  on_files : FilesCommand → Text → Text → Bool → Meaning
   drill : ℕ → ℕ → Meaning
 
 -- the seed of a drill is at most 2,147,483,647, and it has at most 100,000 snapshots
 abbrev pub IsWithinLimits : Meaning → Type 0
 IsWithinLimits (watch w) = Unit {0}
-IsWithinLimits (rewrite ontology queries owl) = Unit {0}
-IsWithinLimits (contain ontology queries owl) = Unit {0}
-IsWithinLimits (audit ontology queries owl) = Unit {0}
+IsWithinLimits (on_files command ontology queries owl) = Unit {0}
 IsWithinLimits (drill seed count) = (seed ≤ 2147483647) × (count ≤ 100000)
 
 -- ---- what each value means
@@ -108,25 +104,11 @@ watch_in rows =
     }) (report_form_in rows)) (stream_form_in rows))
     (file_in (codes "queries") rows)) (file_in (codes "ontology") rows)
 
--- what the arguments of a rewriting mean
-abbrev pub rewrite_in : List Row → Option Meaning
-rewrite_in rows =
+-- what the arguments of a command on files mean
+abbrev pub on_files_in : FilesCommand → List Row → Option Meaning
+on_files_in command rows =
     option_and_then (λ ontology. option_map (λ queries.
-    rewrite ontology queries (flag_in (codes "owl") rows))
-    (file_in (codes "queries") rows)) (file_in (codes "ontology") rows)
-
--- what the arguments of a test of containment mean
-abbrev pub contain_in : List Row → Option Meaning
-contain_in rows =
-    option_and_then (λ ontology. option_map (λ queries.
-    contain ontology queries (flag_in (codes "owl") rows))
-    (file_in (codes "queries") rows)) (file_in (codes "ontology") rows)
-
--- what the arguments of an audit mean
-abbrev pub audit_in : List Row → Option Meaning
-audit_in rows =
-    option_and_then (λ ontology. option_map (λ queries.
-    audit ontology queries (flag_in (codes "owl") rows))
+    on_files command ontology queries (flag_in (codes "owl") rows))
     (file_in (codes "queries") rows)) (file_in (codes "ontology") rows)
 
 -- what the arguments of a drill mean
@@ -137,9 +119,7 @@ drill_in rows = option_and_then (λ seed. option_map (drill seed)
 -- what the arguments of a command mean, where each value has its form
 unfoldable pub meaning_in : CommandName → List Row → Option Meaning
 meaning_in command.Watch rows = option_map watch (watch_in rows)
-meaning_in command.Rewrite rows = rewrite_in rows
-meaning_in command.Contain rows = contain_in rows
-meaning_in command.Audit rows = audit_in rows
+meaning_in (command.OnFiles command) rows = on_files_in command rows
 meaning_in command.Drill rows = drill_in rows
 
 -- what the words mean by the arguments of a command
@@ -167,9 +147,7 @@ watching_of w = record {
 -- what a request asks for
 abbrev pub meaning_of : Request → Meaning
 meaning_of (request.Watch w) = watch (watching_of w)
-meaning_of (request.Rewrite ontology queries owl) = rewrite ontology.now queries.now owl
-meaning_of (request.Contain ontology queries owl) = contain ontology.now queries.now owl
-meaning_of (request.Audit ontology queries owl) = audit ontology.now queries.now owl
+meaning_of (request.OnFiles f) = on_files f.command f.ontology.now f.queries.now f.owl
 meaning_of (request.Drill seed count) = drill seed count
 
 -- a refusal comes only where the words mean nothing, or for want of memory

@@ -3,12 +3,11 @@
 ghost use Rattle.std.specs.Prelude.{◌≡◌, ◌≢◌, [], IfOk, OnOk, false, true};
 ghost use Rattle.clap.specs.Words.{app_of, found_of, new_app, rows_of, rule_of};
 ghost use Rattle.command_words.specs.Commands.{app_of_command, are_taken, faults_in, flag_rule};
-ghost use Rattle.command_words.specs.Commands.{files_app, place_rule, places_app, rows_in};
-ghost use Rattle.command_words.specs.Commands.{texts_of};
-ghost use Rattle.command_words.specs.Commands.{value_rule, without_help};
+ghost use Rattle.command_words.specs.Commands.{files_app, files_word, place_rule, places_app};
+ghost use Rattle.command_words.specs.Commands.{rows_in, texts_of, value_rule, without_help};
 
-use crate::names::CommandName;
-use crate::request::WordsFault;
+use crate::names::{CommandName, files_word};
+use crate::request::{FilesCommand, WordsFault};
 use clap::error::ErrorKind;
 use clap::{Arg, ArgAction, ArgMatches, Command};
 use std::alloc::{AllocError, Global};
@@ -67,6 +66,14 @@ fn two_files<'a>(alloc: Global, name: &'a str) -> Result<Command<'a>, AllocError
     two_places(alloc, name, "ontology", "queries")?.arg(owl)
 }
 
+/// A command on files.
+fn files_command<'a>(alloc: Global, command: FilesCommand) -> Result<Command<'a>, AllocError>
+    ensures { IfOk result (λ c. app_of c ≡ files_app (files_word command)) }
+{
+    let name: &'a str = files_word(command);
+    two_files(alloc, name)
+}
+
 /// The command `watch`, which alone has more options.
 fn watch_command<'a>(alloc: Global) -> Result<Command<'a>, AllocError>
     ensures { IfOk result (λ c. app_of c ≡ app_of_command CommandName.Watch) }
@@ -87,9 +94,7 @@ fn command<'a>(alloc: Global, name: CommandName) -> Result<Command<'a>, AllocErr
 {
     match name {
         CommandName::Watch => watch_command(alloc),
-        CommandName::Rewrite => two_files(alloc, "rewrite"),
-        CommandName::Contain => two_files(alloc, "contain"),
-        CommandName::Audit => two_files(alloc, "audit"),
+        CommandName::OnFiles(command) => files_command(alloc, command),
         CommandName::Drill => two_places(alloc, "drill", "seed", "count"),
     }
 }

@@ -12,4 +12,4 @@ mod tests;
 mod values;
 
 pub use reading::read_words;
-pub use request::{Request, Watch, WordsFault};
+pub use request::{FilesCommand, OnFiles, Request, Watch, WordsFault};

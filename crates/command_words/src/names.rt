@@ -2,17 +2,40 @@
 
 ghost use Rattle.std.specs.Prelude.{◌≡◌, string_bytes};
 ghost use Rattle.std.specs.List.{list_any};
-ghost use Rattle.command_words.specs.Commands.{command_named, command_of, first_command};
-ghost use Rattle.command_words.specs.Commands.{is_barred_word, texts_of};
+ghost use Rattle.command_words.specs.Commands.{command_named, command_of, files_named};
+ghost use Rattle.command_words.specs.Commands.{files_word, first_command, is_barred_word, texts_of};
+
+use crate::request::FilesCommand;
 
 /// The commands.
 #[derive(Clone, Copy, Debug, PartialEq, Eq)]
 pub enum CommandName {
     Watch,
-    Rewrite,
-    Contain,
-    Audit,
+    OnFiles(FilesCommand),
     Drill,
+}
+
+/// The word that names a command on files.
+pub fn files_word(command: FilesCommand) -> &'static str
+    ensures { result.now ≡ files_word command }
+{
+    match command {
+        FilesCommand::Rewrite => "rewrite",
+        FilesCommand::Contain => "contain",
+        FilesCommand::Audit => "audit",
+    }
+}
+
+/// The command on files that the word names.
+fn files_named(word: &str) -> Option<FilesCommand>
+    ensures { result ≡ files_named word.now }
+{
+    match word {
+        "rewrite" => Some(FilesCommand::Rewrite),
+        "contain" => Some(FilesCommand::Contain),
+        "audit" => Some(FilesCommand::Audit),
+        _ => None,
+    }
 }
 
 /// The command of this name.
@@ -21,11 +44,8 @@ fn command_named(word: &str) -> Option<CommandName>
 {
     match word {
         "watch" => Some(CommandName::Watch),
-        "rewrite" => Some(CommandName::Rewrite),
-        "contain" => Some(CommandName::Contain),
-        "audit" => Some(CommandName::Audit),
         "drill" => Some(CommandName::Drill),
-        _ => None,
+        _ => files_named(word).map(CommandName::OnFiles),
     }
 }
 

@@ -24,36 +24,33 @@ pub struct Watch<'a> {
     pub sizes: bool,
 }
 
+/// A command on an ontology and queries whose one option says how the ontology is written.
+#[derive(Clone, Copy, Debug, PartialEq, Eq)]
+pub enum FilesCommand {
+    /// Rewrites the queries by the ontology.
+    Rewrite,
+    /// Tests which queries are contained in which others, under the ontology.
+    Contain,
+    /// Audits models of the ontology, and answers the queries in them.
+    Audit,
+}
+
+/// A command on files, with the names of its two files and its option.
+#[derive(Clone, Copy, Debug, PartialEq, Eq)]
+pub struct OnFiles<'a> {
+    pub command: FilesCommand,
+    pub ontology: &'a str,
+    pub queries: &'a str,
+    /// Whether the ontology is an OWL 2 document in functional-style syntax.
+    pub owl: bool,
+}
+
 /// What the words ask for.
 #[derive(Clone, Copy, Debug, PartialEq, Eq)]
 pub enum Request<'a> {
     Watch(Watch<'a>),
-    /// Rewrites the queries of one file by the ontology of another.
-    Rewrite {
-        ontology: &'a str,
-        queries: &'a str,
-        /// Whether the ontology is an OWL 2 document in functional-style syntax.
-        owl: bool,
-    },
-    /// Tests which queries of one file are contained in which others, under the ontology of
-    /// another.
-    Contain {
-        ontology: &'a str,
-        queries: &'a str,
-        /// Whether the ontology is an OWL 2 document in functional-style syntax.
-        owl: bool,
-    },
-    /// Audits models of the ontology of one file, and answers the queries of another in them.
-    Audit {
-        ontology: &'a str,
-        queries: &'a str,
-        /// Whether the ontology is an OWL 2 document in functional-style syntax.
-        owl: bool,
-    },
+    OnFiles(OnFiles<'a>),
     /// Watches a made stream: the seed is at most 2,147,483,647, the count of snapshots at most
     /// 100,000.
-    Drill {
-        seed: u32,
-        count: u32,
-    },
+    Drill { seed: u32, count: u32 },
 }

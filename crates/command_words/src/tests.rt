@@ -1,5 +1,5 @@
 //! Words of the command line, accepted and refused.
-use crate::{Request, Watch, WordsFault, read_words};
+use crate::{FilesCommand, OnFiles, Request, Watch, WordsFault, read_words};
 use forms::{LineForm, ReportForm, StreamForm};
 use std::alloc::Global;
 use std::test::Fail;
@@ -22,6 +22,16 @@ fn watch_of(form: StreamForm, report: ReportForm, sizes: bool) -> Request<'stati
         form,
         report,
         sizes,
+    })
+}
+
+/// A command on O and Q.
+fn on_files(command: FilesCommand, owl: bool) -> Request<'static> {
+    Request::OnFiles(OnFiles {
+        command,
+        ontology: "O",
+        queries: "Q",
+        owl,
     })
 }
 
@@ -49,25 +59,10 @@ fn accepts_watches(rt: HostRuntime) -> Result<(), Fail> {
 
 #[test]
 fn accepts_rewritings_and_drills(rt: HostRuntime) -> Result<(), Fail> {
-    let rewriting = Request::Rewrite {
-        ontology: "O",
-        queries: "Q",
-        owl: false,
-    };
-    let containment = Request::Contain {
-        ontology: "O",
-        queries: "Q",
-        owl: false,
-    };
-    let audit = Request::Audit {
-        ontology: "O",
-        queries: "Q",
-        owl: false,
-    };
     for (line, request) in [
-        ("rewrite O Q", rewriting),
-        ("contain O Q", containment),
-        ("audit O Q", audit),
+        ("rewrite O Q", on_files(FilesCommand::Rewrite, false)),
+        ("contain O Q", on_files(FilesCommand::Contain, false)),
+        ("audit O Q", on_files(FilesCommand::Audit, false)),
         ("drill 0 0", Request::Drill { seed: 0, count: 0 }),
         ("drill 7 3", Request::Drill { seed: 7, count: 3 }),
         (
@@ -94,21 +89,11 @@ fn accepts_documents(rt: HostRuntime) -> Result<(), Fail> {
         report: ReportForm::Lines(LineForm::Text),
         sizes: true,
     });
-    let rewriting = Request::Rewrite {
-        ontology: "O",
-        queries: "Q",
-        owl: true,
-    };
-    let containment = Request::Contain {
-        ontology: "O",
-        queries: "Q",
-        owl: true,
-    };
     for (line, request) in [
         ("watch O Q --sizes --owl", watch),
         ("watch --owl O Q --sizes", watch),
-        ("rewrite O Q --owl", rewriting),
-        ("contain --owl O Q", containment),
+        ("rewrite O Q --owl", on_files(FilesCommand::Rewrite, true)),
+        ("contain --owl O Q", on_files(FilesCommand::Contain, true)),
     ] {
         let words = words_of(rt.alloc(), line)?;
         assert_eq!(rt; read_words(rt.alloc(), &words), Ok(request), "{line}");

@@ -2,16 +2,15 @@
 
 ghost use Rattle.std.specs.Prelude.{◌≡◌, ◌≤◌, MatchOption, codes, option_map, unwrap_or};
 ghost use Rattle.clap.specs.Words.{first_of, found_of, rows_of};
-ghost use Rattle.command_words.specs.Meanings.{IsWithinLimits, audit_in, contain_in, drill_in};
-ghost use Rattle.command_words.specs.Meanings.{file_in, file_of, is_file, meaning_in, meaning_of};
-ghost use Rattle.command_words.specs.Meanings.{number_in};
-ghost use Rattle.command_words.specs.Meanings.{flag_in, report_form_in, report_form_of, rewrite_in};
+ghost use Rattle.command_words.specs.Meanings.{IsWithinLimits, drill_in, file_in, file_of};
+ghost use Rattle.command_words.specs.Meanings.{flag_in, is_file, meaning_in, meaning_of, number_in};
+ghost use Rattle.command_words.specs.Meanings.{on_files_in, report_form_in, report_form_of};
 ghost use Rattle.command_words.specs.Meanings.{stream_form_in, stream_form_of, watch_in};
 ghost use Rattle.command_words.specs.Meanings.{watching_of};
 
 use crate::names::CommandName;
 use crate::numbers::read_number;
-use crate::request::{Request, Watch};
+use crate::request::{FilesCommand, OnFiles, Request, Watch};
 use clap::ArgMatches;
 use forms::{LineForm, ReportForm, StreamForm};
 
@@ -138,52 +137,22 @@ fn watch<'a>(matches: &ArgMatches<'a>) -> Option<Watch<'a>>
     })
 }
 
-/// What the arguments of a rewriting mean.
-fn rewriting<'a>(matches: &ArgMatches<'a>) -> Option<Request<'a>>
-    ensures meaning { option_map meaning_of result ≡ rewrite_in (rows_of (found_of matches.now)) }
+/// What the arguments of a command on files mean.
+fn on_files<'a>(command: FilesCommand, matches: &ArgMatches<'a>) -> Option<Request<'a>>
+    ensures meaning { option_map meaning_of result
+        ≡ on_files_in command (rows_of (found_of matches.now)) }
     ensures limits { MatchOption result (Unit {0})
         (λ request. IsWithinLimits (meaning_of request)) }
 {
     let ontology = file(matches, "ontology")?;
     let queries = file(matches, "queries")?;
     let owl = flag(matches, "owl");
-    Some(Request::Rewrite {
+    Some(Request::OnFiles(OnFiles {
+        command,
         ontology,
         queries,
         owl,
-    })
-}
-
-/// What the arguments of a test of containment mean.
-fn containment<'a>(matches: &ArgMatches<'a>) -> Option<Request<'a>>
-    ensures meaning { option_map meaning_of result ≡ contain_in (rows_of (found_of matches.now)) }
-    ensures limits { MatchOption result (Unit {0})
-        (λ request. IsWithinLimits (meaning_of request)) }
-{
-    let ontology = file(matches, "ontology")?;
-    let queries = file(matches, "queries")?;
-    let owl = flag(matches, "owl");
-    Some(Request::Contain {
-        ontology,
-        queries,
-        owl,
-    })
-}
-
-/// What the arguments of an audit mean.
-fn audit<'a>(matches: &ArgMatches<'a>) -> Option<Request<'a>>
-    ensures meaning { option_map meaning_of result ≡ audit_in (rows_of (found_of matches.now)) }
-    ensures limits { MatchOption result (Unit {0})
-        (λ request. IsWithinLimits (meaning_of request)) }
-{
-    let ontology = file(matches, "ontology")?;
-    let queries = file(matches, "queries")?;
-    let owl = flag(matches, "owl");
-    Some(Request::Audit {
-        ontology,
-        queries,
-        owl,
-    })
+    }))
 }
 
 /// What the arguments of a drill mean.
@@ -210,9 +179,7 @@ pub fn request<'a>(name: CommandName, matches: &ArgMatches<'a>) -> Option<Reques
             Some(watch) => Some(Request::Watch(watch)),
             None => None,
         },
-        CommandName::Rewrite => rewriting(matches),
-        CommandName::Contain => containment(matches),
-        CommandName::Audit => audit(matches),
+        CommandName::OnFiles(command) => on_files(command, matches),
         CommandName::Drill => drill(matches),
     }
 }

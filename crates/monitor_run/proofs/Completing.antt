@@ -3,8 +3,8 @@ use Rattle.std.proofs.Common.{◌≡◌, ℕ, ◌≤◌, ◌^◌, inl, inr, Opti
 use Rattle.std.proofs.Common.{refl, sym, ◌∙◌, ap, subst, arith, length-append}
 use Rattle.edge_io.specs.Causes.{Rose}
 use Rattle.edge_io.specs.Known.{Takes}
-use Rattle.command_words.specs.Meanings.{Meaning, watch, rewrite, contain, audit, drill}
-use Rattle.command_words.specs.Meanings.{meaning_of_words}
+use Rattle.command_words.specs.declared.request.FilesCommand.TheVariants.{Rewrite, Contain, Audit}
+use Rattle.command_words.specs.Meanings.{Meaning, watch, drill, meaning_of_words}
 use Rattle.stream_report.specs.declared.ending.Ending.{Ending}
 use Rattle.stream_report.specs.declared.ending.Ending.TheVariants.{Done, Usage, Refused, ReadFault}
 use Rattle.stream_report.specs.declared.ending.Ending.TheVariants.{WriteFault, Memory, StreamLimit}
@@ -15,7 +15,7 @@ use Rattle.job_sources.specs.declared.refusal.Refusal.{Refusal}
 use Rattle.monitor_run.specs.Ends.{status_of}
 use Rattle.containment_text.specs.Containments.{refuses_no_leaf}
 use Rattle.job_sources.specs.Sources.{nothing_more}
-use Rattle.monitor_run.specs.Jobs.{asked_by}
+use Rattle.monitor_run.specs.Jobs.{asked_by, command_on}
 use Rattle.monitor_run.specs.Laws.{IsDone, IsGood, IsGoodRewriting, IsGoodContainment, IsGoodDrill}
 use Rattle.monitor_run.specs.Laws.{Completeness, RewritingCompleteness, ContainmentCompleteness}
 use Rattle.monitor_run.specs.Laws.{IsGoodAudit, AuditCompleteness, DrillCompleteness}
@@ -125,8 +125,8 @@ completeness status words before now eb en ran good =
 
 rewriting_done : (words : List (List ℕ)) (before now : Outside)
     (good : IsGoodRewriting words before now) (ending : Ending Refusal)
-    → AskedEnds (asked_by (rewrite good.names.ontology good.names.queries good.names.owl)) ending
-    before now → IsDone (status_of ending)
+    → AskedEnds (asked_by (command_on Rewrite good.names)) ending before now
+    → IsDone (status_of ending)
 rewriting_done words before now good ending (stay, inl (fails, untouched)) =
     for_memory ending (files_memory nothing_more good.names before now good.files ending fails)
 rewriting_done words before now good ending (stay, inr (setting, opens, ends)) =
@@ -135,16 +135,15 @@ rewriting_done words before now good ending (stay, inr (setting, opens, ends)) =
 pub rewriting_completeness : RewritingCompleteness
 rewriting_completeness status words before now eb en ran good =
     subst IsDone (sym ran.status_is)
-    (by_meaning (IsDone (status_of ran.ending)) words
-    (rewrite good.names.ontology good.names.queries good.names.owl) before now good.words_mean
-    ran.ending
+    (by_meaning (IsDone (status_of ran.ending)) words (command_on Rewrite good.names) before now
+    good.words_mean ran.ending
     (λ is same. for_memory ran.ending is) (rewriting_done words before now good ran.ending)
     ran.ends)
 
 containment_done : (words : List (List ℕ)) (before now : Outside)
     (good : IsGoodContainment words before now) (ending : Ending Refusal)
-    → AskedEnds (asked_by (contain good.names.ontology good.names.queries good.names.owl)) ending
-    before now → IsDone (status_of ending)
+    → AskedEnds (asked_by (command_on Contain good.names)) ending before now
+    → IsDone (status_of ending)
 containment_done words before now good ending (stay, inl (fails, untouched)) =
     for_memory ending (files_memory refuses_no_leaf good.names before now good.files ending fails)
 containment_done words before now good ending (stay, inr (setting, opens, ends)) =
@@ -153,16 +152,15 @@ containment_done words before now good ending (stay, inr (setting, opens, ends))
 pub containment_completeness : ContainmentCompleteness
 containment_completeness status words before now eb en ran good =
     subst IsDone (sym ran.status_is)
-    (by_meaning (IsDone (status_of ran.ending)) words
-    (contain good.names.ontology good.names.queries good.names.owl) before now good.words_mean
-    ran.ending
+    (by_meaning (IsDone (status_of ran.ending)) words (command_on Contain good.names) before now
+    good.words_mean ran.ending
     (λ is same. for_memory ran.ending is) (containment_done words before now good ran.ending)
     ran.ends)
 
 audit_done : (words : List (List ℕ)) (before now : Outside) (good : IsGoodAudit words before now)
     (ending : Ending Refusal)
-    → AskedEnds (asked_by (audit good.names.ontology good.names.queries good.names.owl)) ending
-    before now → IsDone (status_of ending)
+    → AskedEnds (asked_by (command_on Audit good.names)) ending before now
+    → IsDone (status_of ending)
 audit_done words before now good ending (stay, inl (fails, untouched)) =
     for_memory ending (files_memory nothing_more good.names before now good.files ending fails)
 audit_done words before now good ending (stay, inr (setting, opens, ends)) =
@@ -172,10 +170,9 @@ audit_done words before now good ending (stay, inr (setting, opens, ends)) =
 pub audit_completeness : AuditCompleteness
 audit_completeness status words before now eb en ran good =
     subst IsDone (sym ran.status_is)
-    (by_meaning (IsDone (status_of ran.ending)) words
-    (audit good.names.ontology good.names.queries good.names.owl) before now good.words_mean
-    ran.ending (λ is same. for_memory ran.ending is) (audit_done words before now good ran.ending)
-    ran.ends)
+    (by_meaning (IsDone (status_of ran.ending)) words (command_on Audit good.names) before now
+    good.words_mean ran.ending
+    (λ is same. for_memory ran.ending is) (audit_done words before now good ran.ending) ran.ends)
 
 drill_done : (words : List (List ℕ)) (before now : Outside) (good : IsGoodDrill words before now)
     (ending : Ending Refusal) → AskedEnds (asked_by (drill good.seed good.count)) ending before now

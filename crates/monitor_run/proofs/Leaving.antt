@@ -1,7 +1,8 @@
 -- What runs leave as it was.
 use Rattle.std.proofs.Common.{◌≡◌, ℕ, Bool, inl, inr, List, sym, ◌∙◌, ap}
 use Rattle.std.specs.Prelude.{◌⊎◌}
-use Rattle.command_words.specs.Meanings.{Meaning, rewrite, contain, drill, meaning_of_words}
+use Rattle.command_words.specs.declared.request.FilesCommand.TheVariants.{Rewrite, Contain, Audit}
+use Rattle.command_words.specs.Meanings.{Meaning, on_files, drill, meaning_of_words}
 use Rattle.command_words.specs.Meanings as meaning
 use Rattle.stream_report.specs.declared.ending.Ending.{Ending}
 use Rattle.stream_report.specs.declared.ending.Ending.TheVariants.{Done, Usage, Refused, ReadFault}
@@ -36,7 +37,7 @@ drill_leaves s words before now eb en seed count ran is =
     (drill_leaves_both seed count before now ran.ending) ran.ends
 
 rewriting_leaves_input : (o q : List ℕ) (owl : Bool) (before now : Outside)
-    (ending : Ending Refusal) → AskedEnds (asked_by (rewrite o q owl)) ending before now
+    (ending : Ending Refusal) → AskedEnds (asked_by (on_files Rewrite o q owl)) ending before now
     → now.ports.input ≡ before.ports.input
 rewriting_leaves_input o q owl before now ending (stay, inl (fails, untouched)) = untouched.input
 rewriting_leaves_input o q owl before now ending (stay, inr (setting, opens, ends)) =
@@ -44,13 +45,13 @@ rewriting_leaves_input o q owl before now ending (stay, inr (setting, opens, end
 
 pub rewriting_leaves : RewritingLeaves
 rewriting_leaves s words before now eb en o q owl ran is =
-    by_meaning (now.ports.input ≡ before.ports.input) words (rewrite o q owl) before now is
+    by_meaning (now.ports.input ≡ before.ports.input) words (on_files Rewrite o q owl) before now is
     ran.ending
     (λ memory same. ap (λ (o : Outside). o.ports.input) same)
     (rewriting_leaves_input o q owl before now ran.ending) ran.ends
 
 containment_leaves_input : (o q : List ℕ) (owl : Bool) (before now : Outside)
-    (ending : Ending Refusal) → AskedEnds (asked_by (contain o q owl)) ending before now
+    (ending : Ending Refusal) → AskedEnds (asked_by (on_files Contain o q owl)) ending before now
     → now.ports.input ≡ before.ports.input
 containment_leaves_input o q owl before now ending (stay, inl (fails, untouched)) = untouched.input
 containment_leaves_input o q owl before now ending (stay, inr (setting, opens, ends)) =
@@ -58,7 +59,7 @@ containment_leaves_input o q owl before now ending (stay, inr (setting, opens, e
 
 pub containment_leaves : ContainmentLeaves
 containment_leaves s words before now eb en o q owl ran is =
-    by_meaning (now.ports.input ≡ before.ports.input) words (contain o q owl) before now is
+    by_meaning (now.ports.input ≡ before.ports.input) words (on_files Contain o q owl) before now is
     ran.ending
     (λ memory same. ap (λ (o : Outside). o.ports.input) same)
     (containment_leaves_input o q owl before now ran.ending) ran.ends
@@ -94,17 +95,17 @@ refused_leaves (meaning.watch w) refusal before now (stay, inl (fails, untouched
     (stay, untouched.input, untouched.out)
 refused_leaves (meaning.watch w) refusal before now (stay, inr (setting, opens, (run, fault))) =
     absurd run.writes
-refused_leaves (meaning.rewrite o q owl) refusal before now (stay, inl (fails, untouched)) =
-    (stay, untouched.input, untouched.out)
-refused_leaves (meaning.rewrite o q owl) refusal before now
+refused_leaves (meaning.on_files Rewrite o q owl) refusal before now
+    (stay, inl (fails, untouched)) = (stay, untouched.input, untouched.out)
+refused_leaves (meaning.on_files Rewrite o q owl) refusal before now
     (stay, inr (setting, opens, (input, (text, is, written), fault))) = absurd written.is
-refused_leaves (meaning.contain o q owl) refusal before now (stay, inl (fails, untouched)) =
-    (stay, untouched.input, untouched.out)
-refused_leaves (meaning.contain o q owl) refusal before now
+refused_leaves (meaning.on_files Contain o q owl) refusal before now
+    (stay, inl (fails, untouched)) = (stay, untouched.input, untouched.out)
+refused_leaves (meaning.on_files Contain o q owl) refusal before now
     (stay, inr (setting, opens, (input, (text, is, written), fault))) = absurd written.is
-refused_leaves (meaning.audit o q owl) refusal before now (stay, inl (fails, untouched)) =
+refused_leaves (meaning.on_files Audit o q owl) refusal before now (stay, inl (fails, untouched)) =
     (stay, untouched.input, untouched.out)
-refused_leaves (meaning.audit o q owl) refusal before now
+refused_leaves (meaning.on_files Audit o q owl) refusal before now
     (stay, inr (setting, opens, (run, fault))) = absurd run.writes
 refused_leaves (meaning.drill seed count) refusal before now (files, inl (fails, untouched)) =
     (files, untouched.input, untouched.out)

@@ -4,6 +4,7 @@ use Rattle.edge_io.specs.declared.outside.Failed.{Failed}
 use Rattle.edge_io.specs.Causes.{HasCause}
 use Rattle.edge_io.specs.Known.{IsFront}
 use Rattle.edge_io.proofs.KnownLemmas.{IsFront-refl}
+use Rattle.command_words.specs.declared.request.FilesCommand.TheVariants.{Rewrite, Contain, Audit}
 use Rattle.command_words.specs.Meanings.{Meaning, meaning_of_words}
 use Rattle.command_words.specs.Meanings as meaning
 use Rattle.stream_report.specs.declared.ending.Ending.{Ending}
@@ -22,20 +23,22 @@ never_usage (meaning.watch w) before now (stay, inl (inl unread, untouched)) = u
 never_usage (meaning.watch w) before now (stay, inl (inr (setting, say, refused), untouched)) =
     refused
 never_usage (meaning.watch w) before now (stay, inr (setting, opens, (run, fault))) = run.writes
-never_usage (meaning.rewrite o q owl) before now (stay, inl (inl unread, untouched)) = unread
-never_usage (meaning.rewrite o q owl) before now
+never_usage (meaning.on_files Rewrite o q owl) before now
+    (stay, inl (inl unread, untouched)) = unread
+never_usage (meaning.on_files Rewrite o q owl) before now
     (stay, inl (inr (setting, say, refused), untouched)) = refused
-never_usage (meaning.rewrite o q owl) before now
+never_usage (meaning.on_files Rewrite o q owl) before now
     (stay, inr (setting, opens, (input, (text, is, written), fault))) = written.is
-never_usage (meaning.contain o q owl) before now (stay, inl (inl unread, untouched)) = unread
-never_usage (meaning.contain o q owl) before now
+never_usage (meaning.on_files Contain o q owl) before now
+    (stay, inl (inl unread, untouched)) = unread
+never_usage (meaning.on_files Contain o q owl) before now
     (stay, inl (inr (setting, say, refused), untouched)) = refused
-never_usage (meaning.contain o q owl) before now
+never_usage (meaning.on_files Contain o q owl) before now
     (stay, inr (setting, opens, (input, (text, is, written), fault))) = written.is
-never_usage (meaning.audit o q owl) before now (stay, inl (inl unread, untouched)) = unread
-never_usage (meaning.audit o q owl) before now
+never_usage (meaning.on_files Audit o q owl) before now (stay, inl (inl unread, untouched)) = unread
+never_usage (meaning.on_files Audit o q owl) before now
     (stay, inl (inr (setting, say, refused), untouched)) = refused
-never_usage (meaning.audit o q owl) before now (stay, inr (setting, opens, (run, fault))) =
+never_usage (meaning.on_files Audit o q owl) before now (stay, inr (setting, opens, (run, fault))) =
     run.writes
 never_usage (meaning.drill seed count) before now (stay, inl (inl unread, untouched)) = unread
 never_usage (meaning.drill seed count) before now

@@ -4,8 +4,8 @@ use Rattle.std.specs.Prelude.{length}
 use Rattle.edge_io.specs.Causes.{Rose}
 use Rattle.edge_io.specs.Held.{Store}
 use Rattle.edge_io.specs.Lines.{whole_items}
-use Rattle.command_words.specs.Meanings.{Watching, watch, rewrite, contain, audit, drill}
-use Rattle.command_words.specs.Meanings.{meaning_of_words}
+use Rattle.command_words.specs.declared.request.FilesCommand.TheVariants.{Rewrite, Contain, Audit}
+use Rattle.command_words.specs.Meanings.{Watching, watch, on_files, drill, meaning_of_words}
 use Rattle.monitor_core.specs.Setting.{Setting}
 use Rattle.stream_report.specs.Told.{Part}
 use Rattle.stream_report.specs.Outside.{SinkTold, Outside}
@@ -16,7 +16,7 @@ use Rattle.job_sources.specs.declared.refusal.Refusal.{Refusal}
 use Rattle.containment_text.specs.Containments.{refuses_no_leaf}
 use Rattle.job_sources.specs.FileNames.{FileNames}
 use Rattle.watch_report.specs.Report.{start, watching}
-use Rattle.monitor_run.specs.Jobs.{options_of}
+use Rattle.monitor_run.specs.Jobs.{command_on, options_of}
 use Rattle.watch_report.specs.Drill.{MadeSay}
 use Rattle.monitor_run.specs.Running.{Ran}
 use Rattle.job_sources.specs.Sources.{nothing_more, Opens, FilesSay}
@@ -55,21 +55,21 @@ pub record IsGood (words : List (List ℕ)) (before now : Outside) : Type 0 wher
 -- the words are of a rewriting by such files
 pub record IsGoodRewriting (words : List (List ℕ)) (before now : Outside) : Type 0 where
   pub names : FileNames
-  pub words_mean : meaning_of_words words ≡ Some (rewrite names.ontology names.queries names.owl)
+  pub words_mean : meaning_of_words words ≡ Some (command_on Rewrite names)
   pub files : HasGoodFiles nothing_more names before now
 
 -- the words are of a test of containment by such files, whose queries are leaves that name all
 -- their answer variables
 pub record IsGoodContainment (words : List (List ℕ)) (before now : Outside) : Type 0 where
   pub names : FileNames
-  pub words_mean : meaning_of_words words ≡ Some (contain names.ontology names.queries names.owl)
+  pub words_mean : meaning_of_words words ≡ Some (command_on Contain names)
   pub files : HasGoodFiles refuses_no_leaf names before now
 
 -- the words are of an audit by such files, the input is within its limit, and its count did not
 -- rise either
 pub record IsGoodAudit (words : List (List ℕ)) (before now : Outside) : Type 0 where
   pub names : FileNames
-  pub words_mean : meaning_of_words words ≡ Some (audit names.ontology names.queries names.owl)
+  pub words_mean : meaning_of_words words ≡ Some (command_on Audit names)
   pub files : HasGoodFiles nothing_more names before now
   pub stream : List ℕ
   pub left : before.ports.input.left ≡ Some stream
@@ -137,7 +137,7 @@ RewritingLeaves =
     (status : Status) (words : List (List ℕ)) (before now : Outside) (err_before err_now : SinkTold)
     (ontology queries : List ℕ) (owl : Bool) →
     Ran status words before now err_before err_now
-    → meaning_of_words words ≡ Some (rewrite ontology queries owl) →
+    → meaning_of_words words ≡ Some (on_files Rewrite ontology queries owl) →
     now.ports.input ≡ before.ports.input
 
 -- so does a test of containment
@@ -146,7 +146,7 @@ ContainmentLeaves =
     (status : Status) (words : List (List ℕ)) (before now : Outside) (err_before err_now : SinkTold)
     (ontology queries : List ℕ) (owl : Bool) →
     Ran status words before now err_before err_now
-    → meaning_of_words words ≡ Some (contain ontology queries owl) →
+    → meaning_of_words words ≡ Some (on_files Contain ontology queries owl) →
     now.ports.input ≡ before.ports.input
 
 -- words of no command leave everything as it was

@@ -2,6 +2,7 @@
 use Rattle.std.specs.Prelude.{◌≡◌, ◌⊎◌, List, ℕ, None, Some}
 use Rattle.edge_io.specs.Causes.{Rose}
 use Rattle.edge_io.specs.Known.{Gains, IsFront}
+use Rattle.command_words.specs.declared.request.FilesCommand.TheVariants.{Rewrite, Contain, Audit}
 use Rattle.command_words.specs.Meanings.{Meaning, meaning_of_words}
 use Rattle.stream_report.specs.declared.ending.Ending.{Ending}
 use Rattle.stream_report.specs.declared.ending.Ending.TheVariants.{Usage, Memory}
@@ -14,16 +15,16 @@ use Rattle.watch_report.specs.Ends.{WatchEnds, DrillEnds}
 use Rattle.audit_report.specs.Ends.{AuditEnds}
 use Rattle.monitor_run.specs.declared.status.Status.{Status}
 use Rattle.monitor_run.specs.declared.jobs.Job.{Job}
-use Rattle.monitor_run.specs.declared.jobs.Job.TheVariants.{Watch, Rewrite, Contain, Audit}
+use Rattle.monitor_run.specs.declared.jobs.Job.TheVariants.{Watch, OnFiles}
 use Rattle.monitor_run.specs.Ends.{status_of, line_of}
 use Rattle.monitor_run.specs.Jobs.{Asked, on_files, drill, asked_by}
 
 -- how each job ended
 abbrev pub JobEnds : Job → FileNames → Ending Refusal → Outside → Outside → Type 0
 JobEnds (Watch options) names ending before now = WatchEnds options names ending before now
-JobEnds Rewrite names ending before now = RewriteEnds names ending before now
-JobEnds Contain names ending before now = ContainEnds names ending before now
-JobEnds Audit names ending before now = AuditEnds names ending before now
+JobEnds (OnFiles Rewrite) names ending before now = RewriteEnds names ending before now
+JobEnds (OnFiles Contain) names ending before now = ContainEnds names ending before now
+JobEnds (OnFiles Audit) names ending before now = AuditEnds names ending before now
 
 -- how what is asked for ended. A drill touches no file
 abbrev pub AskedEnds : Asked → Ending Refusal → Outside → Outside → Type 0

@@ -13,7 +13,7 @@ use crate::error_line::error_line;
 use crate::jobs::{Job, options_of};
 use crate::status::Status;
 use audit_report::audit_files;
-use command_words::{Request, WordsFault, read_words};
+use command_words::{FilesCommand, Request, WordsFault, read_words};
 use containment_text::contain_files;
 use edge_io::{Files, Sink, Source, write_all};
 use job_sources::{Names, Refusal};
@@ -21,6 +21,26 @@ use rewriting_text::rewrite_files;
 use std::alloc::Global;
 use stream_report::Ending;
 use watch_report::{drill, watch_files};
+
+/// Does a command on the files of these names.
+fn do_command<F: Files, S: Source, K: Sink>(
+    alloc: Global,
+    names: Names<'_>,
+    command: FilesCommand,
+    files: &mut F,
+    input: &mut S,
+    out: &mut K,
+) -> Ending<Refusal>
+    ensures ends { JobEnds (Job.OnFiles command) (file_names names.entry) result
+        (outside_of F.Files S.Source K.Sink files.old input.old out.old)
+        (outside_of F.Files S.Source K.Sink files.new input.new out.new) }
+{
+    match command {
+        FilesCommand::Rewrite => rewrite_files(alloc, names, files, out),
+        FilesCommand::Contain => contain_files(alloc, names, files, out),
+        FilesCommand::Audit => audit_files(alloc, names, files, input, out),
+    }
+}
 
 /// Does a job on the files of these names.
 fn do_job<F: Files, S: Source, K: Sink>(
@@ -37,9 +57,7 @@ fn do_job<F: Files, S: Source, K: Sink>(
 {
     match job {
         Job::Watch(options) => watch_files(alloc, names, options, files, input, out),
-        Job::Rewrite => rewrite_files(alloc, names, files, out),
-        Job::Contain => contain_files(alloc, names, files, out),
-        Job::Audit => audit_files(alloc, names, files, input, out),
+        Job::OnFiles(command) => do_command(alloc, names, command, files, input, out),
     }
 }
 
@@ -70,34 +88,15 @@ fn perform<F: Files, S: Source, K: Sink>(
         (outside_of F.Files S.Source K.Sink files.new input.new out.new) }
 {
     match request {
-        Request::Watch(asked) => {
-            let names = named(asked.ontology, asked.queries, asked.owl);
-            let job = Job::Watch(options_of(asked));
+        Request::Watch(watch) => {
+            let names = named(watch.ontology, watch.queries, watch.owl);
+            let job = Job::Watch(options_of(watch));
             do_job(alloc, names, job, files, input, out)
         }
-        Request::Rewrite {
-            ontology,
-            queries,
-            owl,
-        } => {
-            let names = named(ontology, queries, owl);
-            do_job(alloc, names, Job::Rewrite, files, input, out)
-        }
-        Request::Contain {
-            ontology,
-            queries,
-            owl,
-        } => {
-            let names = named(ontology, queries, owl);
-            do_job(alloc, names, Job::Contain, files, input, out)
-        }
-        Request::Audit {
-            ontology,
-            queries,
-            owl,
-        } => {
-            let names = named(ontology, queries, owl);
-            do_job(alloc, names, Job::Audit, files, input, out)
+        Request::OnFiles(asked) => {
+            let names = named(asked.ontology, asked.queries, asked.owl);
+            let job = Job::OnFiles(asked.command);
+            do_job(alloc, names, job, files, input, out)
         }
         Request::Drill { seed, count } => drill(alloc, seed, count, out),
     }

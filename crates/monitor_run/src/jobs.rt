@@ -4,7 +4,7 @@ ghost use Rattle.std.specs.Prelude.{◌≡◌};
 ghost use Rattle.command_words.specs.Meanings.{watching_of};
 ghost use Rattle.monitor_run.specs.Jobs.{options_of};
 
-use command_words::Watch;
+use command_words::{FilesCommand, Watch};
 use watch_report::Options;
 
 /// What is done with an ontology and queries.
@@ -12,12 +12,8 @@ use watch_report::Options;
 pub enum Job {
     /// Watches the input, and writes a report of it.
     Watch(Options),
-    /// Writes the rewritings of all leaves of the queries.
-    Rewrite,
-    /// Writes which queries are contained in which others.
-    Contain,
-    /// Audits the models of the input.
-    Audit,
+    /// Does what has no option but how the ontology is written.
+    OnFiles(FilesCommand),
 }
 
 /// The options that the words of a watch mean.

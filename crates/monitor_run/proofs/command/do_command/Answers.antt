@@ -1,4 +1,4 @@
-use Rattle.monitor_run.proofs.command.do_job.Goals as goal
+use Rattle.monitor_run.proofs.command.do_command.Goals as goal
 
 pub returns-in-Contain : goal.returns-in-Contain
 returns-in-Contain g c = record {
