@@ -3,6 +3,7 @@ use Rattle.std.proofs.Common.{◌≡◌, ℕ, ◌≤◌, ◌^◌, inl, inr, Opti
 use Rattle.std.proofs.Common.{refl, sym, ◌∙◌, ap, subst, arith, length-append}
 use Rattle.edge_io.specs.Causes.{Rose}
 use Rattle.edge_io.specs.Known.{Takes}
+use Rattle.command_words.specs.declared.request.FilesCommand.{FilesCommand}
 use Rattle.command_words.specs.declared.request.FilesCommand.TheVariants.{Rewrite, Contain, Audit}
 use Rattle.command_words.specs.Meanings.{Meaning, watch, drill, meaning_of_words}
 use Rattle.stream_report.specs.declared.ending.Ending.{Ending}
@@ -15,11 +16,15 @@ use Rattle.job_sources.specs.declared.refusal.Refusal.{Refusal}
 use Rattle.monitor_run.specs.Ends.{status_of}
 use Rattle.containment_text.specs.Containments.{refuses_no_leaf}
 use Rattle.job_sources.specs.Sources.{nothing_more}
+use Rattle.job_sources.specs.FileNames.{FileNames}
+use Rattle.monitor_core.specs.Setting.{Setting}
+use Rattle.monitor_run.specs.declared.jobs.Job.TheVariants.{OnFiles}
 use Rattle.monitor_run.specs.Jobs.{asked_by, command_on}
-use Rattle.monitor_run.specs.Laws.{IsDone, IsGood, IsGoodRewriting, IsGoodContainment, IsGoodDrill}
-use Rattle.monitor_run.specs.Laws.{Completeness, RewritingCompleteness, ContainmentCompleteness}
-use Rattle.monitor_run.specs.Laws.{IsGoodAudit, AuditCompleteness, DrillCompleteness}
-use Rattle.monitor_run.specs.Running.{AskedEnds, Performed, RunEnds}
+use Rattle.monitor_run.specs.Laws.{IsDone, HasGoodFiles, HasGoodInput, HasGoodInputFor, IsGood}
+use Rattle.monitor_run.specs.Laws.{IsGoodDrill, refusals_of}
+use Rattle.monitor_run.specs.Laws.{Completeness, CommandCompleteness, DrillCompleteness}
+use Rattle.monitor_run.specs.Running.{JobEnds, AskedEnds, Performed, RunEnds}
+use Rattle.monitor_run.proofs.FilesJobs.{JobOnFiles}
 use Rattle.monitor_run.proofs.GoodSources.{files_memory, made_memory}
 
 -- words have one meaning
@@ -102,19 +107,35 @@ text_done is_text before now no_write ReadFault (input, (text, is, written), fau
 text_done is_text before now no_write StreamLimit (input, (text, is, written), fault) =
     absurd written.is
 
+-- a job on good files that reads a good stream
+reading_done : {State : Type 0} (own : Setting → Refusal → Type 0) (names : FileNames)
+    (manner : Setting → Manner State) (first : State) (before now : Outside)
+    → HasGoodFiles own names before now → HasGoodInput before now → (ending : Ending Refusal)
+    → JobOnFiles own names (λ setting. StreamEnds (manner setting) first) before now ending
+    → IsDone (status_of ending)
+reading_done own names manner first before now files input ending (stay, inl (fails, untouched)) =
+    for_memory ending (files_memory own names before now files ending fails)
+reading_done own names manner first before now files input ending
+    (stay, inr (setting, opens, ends)) =
+    stream_done _ _ before.ports now.ports input.stream input.left input.short input.no_read_fault
+    files.no_write_fault ending ends
+
+-- and one that writes a text
+writing_done : (own : Setting → Refusal → Type 0) (names : FileNames)
+    (is_text : Setting → List ℕ → Type 0) (before now : Outside)
+    → HasGoodFiles own names before now → (ending : Ending Refusal)
+    → JobOnFiles own names (λ setting. TextEnds (is_text setting)) before now ending
+    → IsDone (status_of ending)
+writing_done own names is_text before now files ending (stay, inl (fails, untouched)) =
+    for_memory ending (files_memory own names before now files ending fails)
+writing_done own names is_text before now files ending (stay, inr (setting, opens, ends)) =
+    text_done _ before.ports now.ports files.no_write_fault ending ends
+
 watch_done : (words : List (List ℕ)) (before now : Outside) (good : IsGood words before now)
     (ending : Ending Refusal) → AskedEnds (asked_by (watch good.asked)) ending before now
     → IsDone (status_of ending)
-watch_done words before now good ending (stay, inl (fails, untouched)) =
-    for_memory ending (files_memory nothing_more (record {
-      ontology = good.asked.ontology;
-      queries =
-          good.asked.queries;
-      owl = good.asked.owl;
-    }) before now good.files ending fails)
-watch_done words before now good ending (stay, inr (setting, opens, ends)) =
-    stream_done _ _ before.ports now.ports good.stream good.left good.short good.no_read_fault
-    good.files.no_write_fault ending ends
+watch_done words before now good =
+    reading_done nothing_more _ _ _ before now good.files good.input
 
 pub completeness : Completeness
 completeness status words before now eb en ran good =
@@ -123,56 +144,24 @@ completeness status words before now eb en ran good =
     ran.ending
     (λ is same. for_memory ran.ending is) (watch_done words before now good ran.ending) ran.ends)
 
-rewriting_done : (words : List (List ℕ)) (before now : Outside)
-    (good : IsGoodRewriting words before now) (ending : Ending Refusal)
-    → AskedEnds (asked_by (command_on Rewrite good.names)) ending before now
+command_done : (command : FilesCommand) (names : FileNames) (before now : Outside)
+    → HasGoodFiles (refusals_of command) names before now → HasGoodInputFor command before now
+    → (ending : Ending Refusal) → JobEnds (OnFiles command) names ending before now
     → IsDone (status_of ending)
-rewriting_done words before now good ending (stay, inl (fails, untouched)) =
-    for_memory ending (files_memory nothing_more good.names before now good.files ending fails)
-rewriting_done words before now good ending (stay, inr (setting, opens, ends)) =
-    text_done _ before.ports now.ports good.files.no_write_fault ending ends
+command_done Rewrite names before now files input =
+    writing_done nothing_more names _ before now files
+command_done Contain names before now files input =
+    writing_done refuses_no_leaf names _ before now files
+command_done Audit names before now files input =
+    reading_done nothing_more names _ _ before now files input
 
-pub rewriting_completeness : RewritingCompleteness
-rewriting_completeness status words before now eb en ran good =
+pub command_completeness : CommandCompleteness
+command_completeness status words before now eb en ran good =
     subst IsDone (sym ran.status_is)
-    (by_meaning (IsDone (status_of ran.ending)) words (command_on Rewrite good.names) before now
-    good.words_mean ran.ending
-    (λ is same. for_memory ran.ending is) (rewriting_done words before now good ran.ending)
-    ran.ends)
-
-containment_done : (words : List (List ℕ)) (before now : Outside)
-    (good : IsGoodContainment words before now) (ending : Ending Refusal)
-    → AskedEnds (asked_by (command_on Contain good.names)) ending before now
-    → IsDone (status_of ending)
-containment_done words before now good ending (stay, inl (fails, untouched)) =
-    for_memory ending (files_memory refuses_no_leaf good.names before now good.files ending fails)
-containment_done words before now good ending (stay, inr (setting, opens, ends)) =
-    text_done _ before.ports now.ports good.files.no_write_fault ending ends
-
-pub containment_completeness : ContainmentCompleteness
-containment_completeness status words before now eb en ran good =
-    subst IsDone (sym ran.status_is)
-    (by_meaning (IsDone (status_of ran.ending)) words (command_on Contain good.names) before now
-    good.words_mean ran.ending
-    (λ is same. for_memory ran.ending is) (containment_done words before now good ran.ending)
-    ran.ends)
-
-audit_done : (words : List (List ℕ)) (before now : Outside) (good : IsGoodAudit words before now)
-    (ending : Ending Refusal)
-    → AskedEnds (asked_by (command_on Audit good.names)) ending before now
-    → IsDone (status_of ending)
-audit_done words before now good ending (stay, inl (fails, untouched)) =
-    for_memory ending (files_memory nothing_more good.names before now good.files ending fails)
-audit_done words before now good ending (stay, inr (setting, opens, ends)) =
-    stream_done _ _ before.ports now.ports good.stream good.left good.short good.no_read_fault
-    good.files.no_write_fault ending ends
-
-pub audit_completeness : AuditCompleteness
-audit_completeness status words before now eb en ran good =
-    subst IsDone (sym ran.status_is)
-    (by_meaning (IsDone (status_of ran.ending)) words (command_on Audit good.names) before now
-    good.words_mean ran.ending
-    (λ is same. for_memory ran.ending is) (audit_done words before now good ran.ending) ran.ends)
+    (by_meaning (IsDone (status_of ran.ending)) words (command_on good.command good.names) before
+    now good.words_mean ran.ending
+    (λ is same. for_memory ran.ending is)
+    (command_done good.command good.names before now good.files good.input ran.ending) ran.ends)
 
 drill_done : (words : List (List ℕ)) (before now : Outside) (good : IsGoodDrill words before now)
     (ending : Ending Refusal) → AskedEnds (asked_by (drill good.seed good.count)) ending before now

@@ -1,13 +1,15 @@
 -- What runs leave as it was.
 use Rattle.std.proofs.Common.{◌≡◌, ℕ, Bool, inl, inr, List, sym, ◌∙◌, ap}
 use Rattle.std.specs.Prelude.{◌⊎◌}
+use Rattle.command_words.specs.declared.request.FilesCommand.{FilesCommand}
 use Rattle.command_words.specs.declared.request.FilesCommand.TheVariants.{Rewrite, Contain, Audit}
-use Rattle.command_words.specs.Meanings.{Meaning, on_files, drill, meaning_of_words}
+use Rattle.command_words.specs.Meanings.{Meaning, drill, meaning_of_words}
 use Rattle.command_words.specs.Meanings as meaning
 use Rattle.stream_report.specs.declared.ending.Ending.{Ending}
 use Rattle.stream_report.specs.declared.ending.Ending.TheVariants.{Done, Usage, Refused, ReadFault}
 use Rattle.stream_report.specs.declared.ending.Ending.TheVariants.{WriteFault, Memory, StreamLimit}
-use Rattle.stream_report.specs.Outside.{FilesTold, Outside}
+use Rattle.stream_report.specs.Ends.{TextEnds}
+use Rattle.stream_report.specs.Outside.{Outside}
 use Rattle.stream_report.proofs.TextEndings.{text_leaves}
 use Rattle.job_sources.specs.declared.refusal.Refusal.{Refusal}
 use Rattle.job_sources.specs.declared.refusal.Refusal.TheVariants.{BadOntology, TooManyRewritings}
@@ -15,10 +17,14 @@ use Rattle.job_sources.specs.declared.refusal.Refusal.TheVariants.{BadDocument, 
 use Rattle.job_sources.specs.declared.refusal.Refusal.TheVariants.{NotALeaf}
 use Rattle.monitor_run.specs.declared.status.Status.TheVariants as status
 use Rattle.monitor_run.specs.Ends.{status_of, status_of_refusal}
-use Rattle.monitor_run.specs.Jobs.{asked_by}
-use Rattle.monitor_run.specs.Laws.{DrillLeaves, RewritingLeaves, ContainmentLeaves, UsageLeaves}
+use Rattle.job_sources.specs.FileNames.{FileNames}
+use Rattle.monitor_core.specs.Setting.{Setting}
+use Rattle.monitor_run.specs.declared.jobs.Job.TheVariants.{OnFiles}
+use Rattle.monitor_run.specs.Jobs.{asked_by, command_on}
+use Rattle.monitor_run.specs.Laws.{DrillLeaves, ReadsNoInput, InputStays, UsageLeaves}
 use Rattle.monitor_run.specs.Laws.{RefusalLeaves}
-use Rattle.monitor_run.specs.Running.{AskedEnds, RunEnds}
+use Rattle.monitor_run.specs.Running.{JobEnds, AskedEnds, RunEnds}
+use Rattle.monitor_run.proofs.FilesJobs.{IsLeft, JobOnFiles, refused_left, stream_takes, text_takes}
 use Rattle.monitor_run.proofs.Completing.{by_meaning}
 
 drill_leaves_both : (seed count : ℕ) (before now : Outside) (ending : Ending Refusal)
@@ -36,33 +42,28 @@ drill_leaves s words before now eb en seed count ran is =
     (λ memory same. (ap (λ (o : Outside). o.files) same, ap (λ (o : Outside). o.ports.input) same))
     (drill_leaves_both seed count before now ran.ending) ran.ends
 
-rewriting_leaves_input : (o q : List ℕ) (owl : Bool) (before now : Outside)
-    (ending : Ending Refusal) → AskedEnds (asked_by (on_files Rewrite o q owl)) ending before now
+text_leaves_input : (own : Setting → Refusal → Type 0) (names : FileNames)
+    (is_text : Setting → List ℕ → Type 0) (before now : Outside) (ending : Ending Refusal)
+    → JobOnFiles own names (λ setting. TextEnds (is_text setting)) before now ending
     → now.ports.input ≡ before.ports.input
-rewriting_leaves_input o q owl before now ending (stay, inl (fails, untouched)) = untouched.input
-rewriting_leaves_input o q owl before now ending (stay, inr (setting, opens, ends)) =
+text_leaves_input own names is_text before now ending (stay, inl (fails, untouched)) =
+    untouched.input
+text_leaves_input own names is_text before now ending (stay, inr (setting, opens, ends)) =
     text_leaves _ ending before.ports now.ports ends
 
-pub rewriting_leaves : RewritingLeaves
-rewriting_leaves s words before now eb en o q owl ran is =
-    by_meaning (now.ports.input ≡ before.ports.input) words (on_files Rewrite o q owl) before now is
+input_left : (command : FilesCommand) (names : FileNames) (before now : Outside)
+    (ending : Ending Refusal) → ReadsNoInput command
+    → JobEnds (OnFiles command) names ending before now → now.ports.input ≡ before.ports.input
+input_left Rewrite names before now ending reads = text_leaves_input _ names _ before now ending
+input_left Contain names before now ending reads = text_leaves_input _ names _ before now ending
+input_left _ names before now ending reads = absurd reads
+
+pub input_stays : InputStays
+input_stays s words before now eb en command names reads ran is =
+    by_meaning (now.ports.input ≡ before.ports.input) words (command_on command names) before now is
     ran.ending
     (λ memory same. ap (λ (o : Outside). o.ports.input) same)
-    (rewriting_leaves_input o q owl before now ran.ending) ran.ends
-
-containment_leaves_input : (o q : List ℕ) (owl : Bool) (before now : Outside)
-    (ending : Ending Refusal) → AskedEnds (asked_by (on_files Contain o q owl)) ending before now
-    → now.ports.input ≡ before.ports.input
-containment_leaves_input o q owl before now ending (stay, inl (fails, untouched)) = untouched.input
-containment_leaves_input o q owl before now ending (stay, inr (setting, opens, ends)) =
-    text_leaves _ ending before.ports now.ports ends
-
-pub containment_leaves : ContainmentLeaves
-containment_leaves s words before now eb en o q owl ran is =
-    by_meaning (now.ports.input ≡ before.ports.input) words (on_files Contain o q owl) before now is
-    ran.ending
-    (λ memory same. ap (λ (o : Outside). o.ports.input) same)
-    (containment_leaves_input o q owl before now ran.ending) ran.ends
+    (input_left command names before now ran.ending reads) ran.ends
 
 refusal_is_no_usage : (refusal : Refusal) → status.Usage ≡ status_of_refusal refusal → ⊥
 refusal_is_no_usage (BadOntology line kind) is = cc
@@ -85,36 +86,35 @@ pub usage_leaves : UsageLeaves
 usage_leaves words before now eb en ran =
     usage_untouched words before now ran.ending ran.status_is ran.ends
 
-abbrev Left : Outside → Outside → Type 0
-Left before now = (now.files ≡ before.files) × (now.ports.input ≡ before.ports.input)
-    × (now.ports.out ≡ before.ports.out)
+refused_command : (command : FilesCommand) (names : FileNames) (refusal : Refusal)
+    (before now : Outside) → JobEnds (OnFiles command) names (Refused refusal) before now
+    → IsLeft before now
+refused_command Rewrite names refusal before now =
+    refused_left _ names _ before now refusal
+    (λ setting. text_takes _ refusal before.ports now.ports)
+refused_command Contain names refusal before now =
+    refused_left _ names _ before now refusal
+    (λ setting. text_takes _ refusal before.ports now.ports)
+refused_command Audit names refusal before now =
+    refused_left _ names _ before now refusal
+    (λ setting. stream_takes _ _ refusal before.ports now.ports)
 
 refused_leaves : (means : Meaning) (refusal : Refusal) (before now : Outside)
-    → AskedEnds (asked_by means) (Refused refusal) before now → Left before now
-refused_leaves (meaning.watch w) refusal before now (stay, inl (fails, untouched)) =
-    (stay, untouched.input, untouched.out)
-refused_leaves (meaning.watch w) refusal before now (stay, inr (setting, opens, (run, fault))) =
-    absurd run.writes
-refused_leaves (meaning.on_files Rewrite o q owl) refusal before now
-    (stay, inl (fails, untouched)) = (stay, untouched.input, untouched.out)
-refused_leaves (meaning.on_files Rewrite o q owl) refusal before now
-    (stay, inr (setting, opens, (input, (text, is, written), fault))) = absurd written.is
-refused_leaves (meaning.on_files Contain o q owl) refusal before now
-    (stay, inl (fails, untouched)) = (stay, untouched.input, untouched.out)
-refused_leaves (meaning.on_files Contain o q owl) refusal before now
-    (stay, inr (setting, opens, (input, (text, is, written), fault))) = absurd written.is
-refused_leaves (meaning.on_files Audit o q owl) refusal before now (stay, inl (fails, untouched)) =
-    (stay, untouched.input, untouched.out)
-refused_leaves (meaning.on_files Audit o q owl) refusal before now
-    (stay, inr (setting, opens, (run, fault))) = absurd run.writes
+    → AskedEnds (asked_by means) (Refused refusal) before now → IsLeft before now
+refused_leaves (meaning.watch w) refusal before now =
+    refused_left _ _ _ before now refusal
+    (λ setting. stream_takes _ _ refusal before.ports now.ports)
+refused_leaves (meaning.on_files command o q owl) refusal before now =
+    refused_command command (record { ontology = o; queries = q; owl = owl }) refusal before now
 refused_leaves (meaning.drill seed count) refusal before now (files, inl (fails, untouched)) =
     (files, untouched.input, untouched.out)
 refused_leaves (meaning.drill seed count) refusal before now
-    (files, inr (setting, opens, (input, (text, is, written), fault))) = absurd written.is
+    (files, inr (setting, opens, ends)) =
+    absurd (text_takes _ refusal before.ports now.ports ends)
 
 by_refusal : (words : List (List ℕ)) (before now : Outside) (ending : Ending Refusal)
     → (status_of ending ≡ status.BadOntology) ⊎ (status_of ending ≡ status.BadQueries)
-    → RunEnds ending words before now → Left before now
+    → RunEnds ending words before now → IsLeft before now
 by_refusal words before now (Refused refusal) is p =
     refused_leaves p.means refusal before now p.ends
 by_refusal words before now Usage (inl is) ends = cc

@@ -1,3 +1,4 @@
+mod FilesJobs
 mod RunLaws
 mod GoodSources
 mod Completing

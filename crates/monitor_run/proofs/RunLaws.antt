@@ -4,6 +4,7 @@ use Rattle.edge_io.specs.declared.outside.Failed.{Failed}
 use Rattle.edge_io.specs.Causes.{HasCause}
 use Rattle.edge_io.specs.Known.{IsFront}
 use Rattle.edge_io.proofs.KnownLemmas.{IsFront-refl}
+use Rattle.command_words.specs.declared.request.FilesCommand.{FilesCommand}
 use Rattle.command_words.specs.declared.request.FilesCommand.TheVariants.{Rewrite, Contain, Audit}
 use Rattle.command_words.specs.Meanings.{Meaning, meaning_of_words}
 use Rattle.command_words.specs.Meanings as meaning
@@ -13,38 +14,33 @@ use Rattle.stream_report.specs.declared.ending.Ending.TheVariants.{WriteFault, M
 use Rattle.stream_report.specs.Outside.{SinkTold, Outside}
 use Rattle.edge_io.specs.Writing.{Writes}
 use Rattle.job_sources.specs.declared.refusal.Refusal.{Refusal}
+use Rattle.job_sources.specs.FileNames.{FileNames}
+use Rattle.monitor_run.specs.declared.jobs.Job.TheVariants.{OnFiles}
 use Rattle.monitor_run.specs.Jobs.{asked_by}
-use Rattle.monitor_run.specs.Running.{AskedEnds, RunEnds, Says}
+use Rattle.monitor_run.specs.Running.{JobEnds, AskedEnds, RunEnds, Says}
+use Rattle.monitor_run.proofs.FilesJobs.{means_something, stream_means, text_means}
 
 -- no command ends as words that mean nothing
+never_usage_on : (command : FilesCommand) (names : FileNames) (before now : Outside)
+    → ¬ JobEnds (OnFiles command) names Usage before now
+never_usage_on Rewrite names before now =
+    means_something _ names _ before now (λ setting. text_means _ before.ports now.ports)
+never_usage_on Contain names before now =
+    means_something _ names _ before now (λ setting. text_means _ before.ports now.ports)
+never_usage_on Audit names before now =
+    means_something _ names _ before now (λ setting. stream_means _ _ before.ports now.ports)
+
 pub never_usage : (means : Meaning) (before now : Outside)
     → ¬ AskedEnds (asked_by means) Usage before now
-never_usage (meaning.watch w) before now (stay, inl (inl unread, untouched)) = unread
-never_usage (meaning.watch w) before now (stay, inl (inr (setting, say, refused), untouched)) =
-    refused
-never_usage (meaning.watch w) before now (stay, inr (setting, opens, (run, fault))) = run.writes
-never_usage (meaning.on_files Rewrite o q owl) before now
-    (stay, inl (inl unread, untouched)) = unread
-never_usage (meaning.on_files Rewrite o q owl) before now
-    (stay, inl (inr (setting, say, refused), untouched)) = refused
-never_usage (meaning.on_files Rewrite o q owl) before now
-    (stay, inr (setting, opens, (input, (text, is, written), fault))) = written.is
-never_usage (meaning.on_files Contain o q owl) before now
-    (stay, inl (inl unread, untouched)) = unread
-never_usage (meaning.on_files Contain o q owl) before now
-    (stay, inl (inr (setting, say, refused), untouched)) = refused
-never_usage (meaning.on_files Contain o q owl) before now
-    (stay, inr (setting, opens, (input, (text, is, written), fault))) = written.is
-never_usage (meaning.on_files Audit o q owl) before now (stay, inl (inl unread, untouched)) = unread
-never_usage (meaning.on_files Audit o q owl) before now
-    (stay, inl (inr (setting, say, refused), untouched)) = refused
-never_usage (meaning.on_files Audit o q owl) before now (stay, inr (setting, opens, (run, fault))) =
-    run.writes
+never_usage (meaning.watch w) before now =
+    means_something _ _ _ before now (λ setting. stream_means _ _ before.ports now.ports)
+never_usage (meaning.on_files command o q owl) before now =
+    never_usage_on command (record { ontology = o; queries = q; owl = owl }) before now
 never_usage (meaning.drill seed count) before now (stay, inl (inl unread, untouched)) = unread
 never_usage (meaning.drill seed count) before now
     (stay, inl (inr (setting, say, refused), untouched)) = refused
-never_usage (meaning.drill seed count) before now
-    (stay, inr (setting, opens, (input, (text, is, written), fault))) = written.is
+never_usage (meaning.drill seed count) before now (stay, inr (setting, opens, ends)) =
+    text_means _ before.ports now.ports ends
 
 -- what the words mean was done
 pub performed : (ending : Ending Refusal) (words : List (List ℕ)) (means : Meaning)

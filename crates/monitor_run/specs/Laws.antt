@@ -1,11 +1,12 @@
 -- Laws of runs.
-use Rattle.std.specs.Prelude.{◌≡◌, ◌≢◌, ◌⊎◌, ◌↔◌, ℕ, ◌<◌, ◌≤◌, ◌^◌, Bool, List, ◌++◌, Some}
+use Rattle.std.specs.Prelude.{◌≡◌, ◌≢◌, ◌⊎◌, ◌↔◌, ℕ, ◌<◌, ◌≤◌, ◌^◌, List, ◌++◌, Some}
 use Rattle.std.specs.Prelude.{length}
 use Rattle.edge_io.specs.Causes.{Rose}
 use Rattle.edge_io.specs.Held.{Store}
 use Rattle.edge_io.specs.Lines.{whole_items}
-use Rattle.command_words.specs.declared.request.FilesCommand.TheVariants.{Rewrite, Contain, Audit}
-use Rattle.command_words.specs.Meanings.{Watching, watch, on_files, drill, meaning_of_words}
+use Rattle.command_words.specs.declared.request.FilesCommand.{FilesCommand}
+use Rattle.command_words.specs.declared.request.FilesCommand.TheVariants.{Rewrite, Contain}
+use Rattle.command_words.specs.Meanings.{Watching, watch, drill, meaning_of_words}
 use Rattle.monitor_core.specs.Setting.{Setting}
 use Rattle.stream_report.specs.Told.{Part}
 use Rattle.stream_report.specs.Outside.{SinkTold, Outside}
@@ -36,8 +37,14 @@ pub record HasGoodFiles (own : Setting → Refusal
   pub no_file_fault : ¬ Rose before.files.faults now.files.faults
   pub no_write_fault : ¬ Rose before.ports.out.faults now.ports.out.faults
 
--- the words are of a watch of such files, the stream is within its limit, and its count did not
--- rise either
+-- what the input has is within its limit, and its count did not rise either
+pub record HasGoodInput (before now : Outside) : Type 0 where
+  pub stream : List ℕ
+  pub left : before.ports.input.left ≡ Some stream
+  pub short : length stream ≤ 2 ^ 40
+  pub no_read_fault : ¬ Rose before.ports.input.faults now.ports.input.faults
+
+-- the words are of a watch of such files and such an input
 pub record IsGood (words : List (List ℕ)) (before now : Outside) : Type 0 where
   pub asked : Watching
   pub words_mean : meaning_of_words words ≡ Some (watch asked)
@@ -47,34 +54,26 @@ pub record IsGood (words : List (List ℕ)) (before now : Outside) : Type 0 wher
         asked.queries;
     owl = asked.owl;
   }) before now
-  pub stream : List ℕ
-  pub left : before.ports.input.left ≡ Some stream
-  pub short : length stream ≤ 2 ^ 40
-  pub no_read_fault : ¬ Rose before.ports.input.faults now.ports.input.faults
+  pub input : HasGoodInput before now
 
--- the words are of a rewriting by such files
-pub record IsGoodRewriting (words : List (List ℕ)) (before now : Outside) : Type 0 where
-  pub names : FileNames
-  pub words_mean : meaning_of_words words ≡ Some (command_on Rewrite names)
-  pub files : HasGoodFiles nothing_more names before now
+-- what a command on files refuses by itself of what they say
+abbrev pub refusals_of : FilesCommand → Setting → Refusal → Type 0
+refusals_of Contain = refuses_no_leaf
+refusals_of _ = nothing_more
 
--- the words are of a test of containment by such files, whose queries are leaves that name all
--- their answer variables
-pub record IsGoodContainment (words : List (List ℕ)) (before now : Outside) : Type 0 where
-  pub names : FileNames
-  pub words_mean : meaning_of_words words ≡ Some (command_on Contain names)
-  pub files : HasGoodFiles refuses_no_leaf names before now
+-- the input is such a one, but for the commands that read none
+abbrev pub HasGoodInputFor : FilesCommand → Outside → Outside → Type 0
+HasGoodInputFor Rewrite before now = Unit {0}
+HasGoodInputFor Contain before now = Unit {0}
+HasGoodInputFor _ before now = HasGoodInput before now
 
--- the words are of an audit by such files, the input is within its limit, and its count did not
--- rise either
-pub record IsGoodAudit (words : List (List ℕ)) (before now : Outside) : Type 0 where
+-- the words are of a command on such files and, where it reads the input, such an input
+pub record IsGoodCommand (words : List (List ℕ)) (before now : Outside) : Type 0 where
+  pub command : FilesCommand
   pub names : FileNames
-  pub words_mean : meaning_of_words words ≡ Some (command_on Audit names)
-  pub files : HasGoodFiles nothing_more names before now
-  pub stream : List ℕ
-  pub left : before.ports.input.left ≡ Some stream
-  pub short : length stream ≤ 2 ^ 40
-  pub no_read_fault : ¬ Rose before.ports.input.faults now.ports.input.faults
+  pub words_mean : meaning_of_words words ≡ Some (command_on command names)
+  pub files : HasGoodFiles (refusals_of command) names before now
+  pub input : HasGoodInputFor command before now
 
 -- the words are of a drill, what it makes reaches no more than may be, and the output had no fault
 pub record IsGoodDrill (words : List (List ℕ)) (before now : Outside) : Type 0 where
@@ -92,28 +91,13 @@ Completeness =
     →
     Ran status words before now err_before err_now → IsGood words before now → IsDone status
 
--- so is a rewriting
-abbrev pub RewritingCompleteness : Type 0
-RewritingCompleteness =
+-- so is each command on files
+abbrev pub CommandCompleteness : Type 0
+CommandCompleteness =
     (status : Status) (words : List (List ℕ)) (before now : Outside) (err_before err_now : SinkTold)
     →
-    Ran status words before now err_before err_now → IsGoodRewriting words before now
+    Ran status words before now err_before err_now → IsGoodCommand words before now
     → IsDone status
-
--- a test of containment
-abbrev pub ContainmentCompleteness : Type 0
-ContainmentCompleteness =
-    (status : Status) (words : List (List ℕ)) (before now : Outside) (err_before err_now : SinkTold)
-    →
-    Ran status words before now err_before err_now → IsGoodContainment words before now
-    → IsDone status
-
--- an audit
-abbrev pub AuditCompleteness : Type 0
-AuditCompleteness =
-    (status : Status) (words : List (List ℕ)) (before now : Outside) (err_before err_now : SinkTold)
-    →
-    Ran status words before now err_before err_now → IsGoodAudit words before now → IsDone status
 
 -- and a drill
 abbrev pub DrillCompleteness : Type 0
@@ -131,22 +115,19 @@ DrillLeaves =
     → meaning_of_words words ≡ Some (drill seed count) →
     (now.files ≡ before.files) × (now.ports.input ≡ before.ports.input)
 
--- a rewriting leaves the input as it was
-abbrev pub RewritingLeaves : Type 0
-RewritingLeaves =
-    (status : Status) (words : List (List ℕ)) (before now : Outside) (err_before err_now : SinkTold)
-    (ontology queries : List ℕ) (owl : Bool) →
-    Ran status words before now err_before err_now
-    → meaning_of_words words ≡ Some (on_files Rewrite ontology queries owl) →
-    now.ports.input ≡ before.ports.input
+-- a rewriting and a test of containment read no input
+abbrev pub ReadsNoInput : FilesCommand → Type 0
+ReadsNoInput Rewrite = Unit {0}
+ReadsNoInput Contain = Unit {0}
+ReadsNoInput _ = ⊥
 
--- so does a test of containment
-abbrev pub ContainmentLeaves : Type 0
-ContainmentLeaves =
+-- so they leave it as it was
+abbrev pub InputStays : Type 0
+InputStays =
     (status : Status) (words : List (List ℕ)) (before now : Outside) (err_before err_now : SinkTold)
-    (ontology queries : List ℕ) (owl : Bool) →
+    (command : FilesCommand) (names : FileNames) → ReadsNoInput command →
     Ran status words before now err_before err_now
-    → meaning_of_words words ≡ Some (on_files Contain ontology queries owl) →
+    → meaning_of_words words ≡ Some (command_on command names) →
     now.ports.input ≡ before.ports.input
 
 -- words of no command leave everything as it was

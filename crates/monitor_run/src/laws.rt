@@ -1,9 +1,7 @@
 //! Laws of runs, each the contract of a function with nothing to do.
-ghost use Rattle.monitor_run.specs.Laws.{Completeness, RewritingCompleteness, DrillCompleteness};
-ghost use Rattle.monitor_run.specs.Laws.{DrillLeaves, RewritingLeaves, UsageLeaves, RefusalLeaves};
+ghost use Rattle.monitor_run.specs.Laws.{Completeness, CommandCompleteness, DrillCompleteness};
+ghost use Rattle.monitor_run.specs.Laws.{DrillLeaves, InputStays, UsageLeaves, RefusalLeaves};
 ghost use Rattle.monitor_run.specs.Laws.{LimitComesExactly};
-ghost use Rattle.monitor_run.specs.Laws.{AuditCompleteness};
-ghost use Rattle.monitor_run.specs.Laws.{ContainmentCompleteness, ContainmentLeaves};
 
 /// Where the words name files without a fault, the stream is within its limit and no count of
 /// faults rose, a run is done with the whole report, or found no memory.
@@ -11,29 +9,11 @@ pub fn completeness()
     ensures { Completeness }
 {}
 
-/// Where the words name files without a fault, what they ask reaches no more than it may, and no
-/// count of faults rose, a rewriting is done with the whole text, or found no memory.
-pub fn rewriting_completeness()
-    ensures { RewritingCompleteness }
-{}
-
-/// Where the words name files without a fault, whose queries are leaves that name all their answer
-/// variables and reach no more than they may, and no count of faults rose, a test of containment is
-/// done with the whole text, or found no memory.
-pub fn containment_completeness()
-    ensures { ContainmentCompleteness }
-{}
-
-/// Where the words name files without a fault, which reach no more than they may, the input is
-/// within its limit and no count of faults rose, an audit is done with the whole report, or found
-/// no memory.
-pub fn audit_completeness()
-    ensures { AuditCompleteness }
-{}
-
-/// A test of containment leaves the input as it was.
-pub fn containment_leaves()
-    ensures { ContainmentLeaves }
+/// Where the words name files without a fault, which the command takes and which reach no more than
+/// they may, the input is within its limit and no count of faults rose, a command on files is done
+/// with the whole text or report, or found no memory.
+pub fn command_completeness()
+    ensures { CommandCompleteness }
 {}
 
 /// Where what a drill makes reaches no more than it may and the output's count of faults didn't
@@ -47,9 +27,9 @@ pub fn drill_leaves()
     ensures { DrillLeaves }
 {}
 
-/// A rewriting leaves the input as it was.
-pub fn rewriting_leaves()
-    ensures { RewritingLeaves }
+/// A rewriting and a test of containment leave the input as it was.
+pub fn input_stays()
+    ensures { InputStays }
 {}
 
 /// Words of no command leave everything as it was.
