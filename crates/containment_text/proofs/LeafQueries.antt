@@ -20,7 +20,7 @@ use Rattle.monitor_core.specs.Setting.{Setting}
 use Rattle.job_sources.specs.declared.refusal.Refusal.{Refusal}
 use Rattle.job_sources.specs.declared.refusal.Refusal.TheVariants.{BadOntology, TooManyRewritings}
 use Rattle.job_sources.specs.declared.refusal.Refusal.TheVariants.{BadDocument, BadQueries}
-use Rattle.job_sources.specs.declared.refusal.Refusal.TheVariants.{NotALeaf}
+use Rattle.job_sources.specs.declared.refusal.Refusal.TheVariants.{NotALeaf, TooLarge}
 use Rattle.containment_text.specs.Containments.{Pair, pair_asked, pair_of, root_leaf, naming_all}
 use Rattle.containment_text.specs.Containments.{leaf_query, first_unless, first_no_leaf}
 use Rattle.containment_text.specs.Containments.{refuses_no_leaf, IsLeafQuery}
@@ -105,6 +105,7 @@ all_leaf_queries (query ∷ queries) is =
 pub takes_leaves : (setting : Setting) → first_no_leaf setting.queries ≡ None → (refusal : Refusal)
     → ¬ refuses_no_leaf setting refusal
 takes_leaves setting none (NotALeaf name) own = absurd (cc)
+takes_leaves setting none (TooLarge total) own = own
 takes_leaves setting none (BadOntology line kind) own = own
 takes_leaves setting none (BadDocument line kind) own = own
 takes_leaves setting none TooManyRewritings own = own

@@ -15,7 +15,7 @@ use Rattle.stream_report.specs.declared.ending.Ending.TheVariants.{WriteFault, M
 use Rattle.job_sources.specs.declared.refusal.Refusal.{Refusal}
 use Rattle.job_sources.specs.declared.refusal.Refusal.TheVariants.{BadOntology, TooManyRewritings}
 use Rattle.job_sources.specs.declared.refusal.Refusal.TheVariants.{BadDocument, BadQueries}
-use Rattle.job_sources.specs.declared.refusal.Refusal.TheVariants.{NotALeaf}
+use Rattle.job_sources.specs.declared.refusal.Refusal.TheVariants.{NotALeaf, TooLarge}
 use Rattle.job_sources.specs.OntologyForms.{SaysAs, IsFaultyAs}
 use Rattle.job_sources.specs.Opening.{HasText}
 use Rattle.job_sources.specs.Sources.{AreTooMany}
@@ -38,12 +38,14 @@ no_ontology_fault true text (BadOntology line kind) said fault says = fault
 no_ontology_fault true text TooManyRewritings said fault says = fault
 no_ontology_fault true text (BadQueries line kind) said fault says = fault
 no_ontology_fault true text (NotALeaf name) said fault says = fault
+no_ontology_fault true text (TooLarge total) said fault says = fault
 no_ontology_fault false text (BadOntology line kind) said fault says =
     let both = sym fault ∙ says in cc
 no_ontology_fault false text (BadDocument line kind) said fault says = fault
 no_ontology_fault false text TooManyRewritings said fault says = fault
 no_ontology_fault false text (BadQueries line kind) said fault says = fault
 no_ontology_fault false text (NotALeaf name) said fault says = fault
+no_ontology_fault false text (TooLarge total) said fault says = fault
 
 module _ (owl : Bool) (is_ontology is_queries : List ℕ → Type 0) (one_ontology : (a b : List ℕ)
     → is_ontology a → is_ontology b → a ≡ b) (one_queries : (a b : List ℕ) → is_queries a
@@ -95,6 +97,7 @@ module _ (owl : Bool) (is_ontology is_queries : List ℕ → Type 0) (one_ontolo
         opens.say.ontology_says
     never_faulty TooManyRewritings bad = bad
     never_faulty (NotALeaf name) bad = bad
+    never_faulty (TooLarge total) bad = bad
     never_faulty (BadQueries line kind) bad =
         let ontology : bad.ontology ≡ setting.ontology =
         same_ontology bad.says.text opens.say.ontology bad.ontology setting.ontology bad.says.is

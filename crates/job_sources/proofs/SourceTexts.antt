@@ -17,7 +17,7 @@ use Rattle.stream_report.specs.Outside.{FilesTold}
 use Rattle.job_sources.specs.declared.refusal.Refusal.{Refusal}
 use Rattle.job_sources.specs.declared.refusal.Refusal.TheVariants.{BadOntology, TooManyRewritings}
 use Rattle.job_sources.specs.declared.refusal.Refusal.TheVariants.{BadDocument, BadQueries}
-use Rattle.job_sources.specs.declared.refusal.Refusal.TheVariants.{NotALeaf}
+use Rattle.job_sources.specs.declared.refusal.Refusal.TheVariants.{NotALeaf, TooLarge}
 use Rattle.job_sources.specs.FileNames.{FileNames}
 use Rattle.job_sources.specs.OntologyForms.{SaysAs, IsFaultyAs}
 use Rattle.job_sources.specs.Opening.{HasText}
@@ -38,6 +38,10 @@ never_leaf : (owl : Bool) (text : List ℕ) (leaf : ShortName)
 never_leaf true text leaf fault = fault
 never_leaf false text leaf fault = fault
 
+never_large : (owl : Bool) (text : List ℕ) (total : ℕ) → ¬ IsFaultyAs owl text (TooLarge total)
+never_large true text total fault = fault
+never_large false text total fault = fault
+
 never_queries : (owl : Bool) (text : List ℕ) (line : ℕ) (kind : QueryKind)
     → ¬ IsFaultyAs owl text (BadQueries line kind)
 never_queries true text line kind fault = fault
@@ -55,6 +59,8 @@ faulty_file before now names text TooManyRewritings has fault =
     absurd (never_many names.owl text fault)
 faulty_file before now names text (NotALeaf leaf) has fault =
     absurd (never_leaf names.owl text leaf fault)
+faulty_file before now names text (TooLarge total) has fault =
+    absurd (never_large names.owl text total fault)
 faulty_file before now names text (BadQueries line kind) has fault =
     absurd (never_queries names.owl text line kind fault)
 
@@ -193,6 +199,7 @@ queries_fault before now names ontology text (Refused (BadQueries line kind)) bo
     }
 queries_fault before now names ontology text (Refused TooManyRewritings) both fault = absurd fault
 queries_fault before now names ontology text (Refused (NotALeaf leaf)) both fault = absurd fault
+queries_fault before now names ontology text (Refused (TooLarge total)) both fault = absurd fault
 queries_fault before now names ontology text (Refused (BadOntology line kind)) both fault =
     absurd fault
 queries_fault before now names ontology text (Refused (BadDocument line kind)) both fault =
@@ -214,6 +221,7 @@ module _ (ontology queries : List ℕ) where
   ontology_refused (Refused (BadDocument line kind)) fault = absurd fault
   ontology_refused (Refused TooManyRewritings) fault = absurd fault
   ontology_refused (Refused (NotALeaf leaf)) fault = absurd fault
+  ontology_refused (Refused (TooLarge total)) fault = absurd fault
   ontology_refused (Refused (BadQueries line kind)) fault = absurd fault
   ontology_refused Memory fault = tt
   ontology_refused Done fault = absurd fault
@@ -235,6 +243,7 @@ module _ (ontology queries : List ℕ) where
       }
   queries_refused said (Refused TooManyRewritings) says fault = absurd fault
   queries_refused said (Refused (NotALeaf leaf)) says fault = absurd fault
+  queries_refused said (Refused (TooLarge total)) says fault = absurd fault
   queries_refused said (Refused (BadOntology line kind)) says fault = absurd fault
   queries_refused said (Refused (BadDocument line kind)) says fault = absurd fault
   queries_refused said Memory says fault = tt

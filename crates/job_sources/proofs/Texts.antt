@@ -18,7 +18,7 @@ use Rattle.tcq_reader.specs.Reading.{SaysQueries, IsFault}
 use Rattle.job_sources.specs.declared.refusal.Refusal.{Refusal}
 use Rattle.job_sources.specs.declared.refusal.Refusal.TheVariants.{BadOntology, BadDocument}
 use Rattle.job_sources.specs.declared.refusal.Refusal.TheVariants.{BadQueries, NotALeaf}
-use Rattle.job_sources.specs.declared.refusal.Refusal.TheVariants.{TooManyRewritings}
+use Rattle.job_sources.specs.declared.refusal.Refusal.TheVariants.{TooManyRewritings, TooLarge}
 use Rattle.job_sources.specs.OntologyForms.{SaysAs, IsFaultyAs}
 use Rattle.job_sources.specs.Opening.{HasText}
 use Rattle.job_sources.proofs.LongTexts.{fault_too_long}
@@ -81,11 +81,13 @@ faulty_there true text bytes (BadOntology line kind) cut fault = absurd fault
 faulty_there true text bytes TooManyRewritings cut fault = absurd fault
 faulty_there true text bytes (BadQueries line kind) cut fault = absurd fault
 faulty_there true text bytes (NotALeaf name) cut fault = absurd fault
+faulty_there true text bytes (TooLarge total) cut fault = absurd fault
 faulty_there false text bytes (BadOntology line kind) cut fault = same_lines text bytes cut ∙ fault
 faulty_there false text bytes (BadDocument line kind) cut fault = absurd fault
 faulty_there false text bytes TooManyRewritings cut fault = absurd fault
 faulty_there false text bytes (BadQueries line kind) cut fault = absurd fault
 faulty_there false text bytes (NotALeaf name) cut fault = absurd fault
+faulty_there false text bytes (TooLarge total) cut fault = absurd fault
 
 pub queries_there : (ontology : Declared) (text bytes : List ℕ) (queries : List Tcq)
     → Cut 4194304 text bytes → SaysQueries ontology bytes queries

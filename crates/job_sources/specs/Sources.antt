@@ -17,7 +17,7 @@ use Rattle.stream_report.specs.Outside.{FilesTold}
 use Rattle.job_sources.specs.declared.refusal.Refusal.{Refusal}
 use Rattle.job_sources.specs.declared.refusal.Refusal.TheVariants.{BadOntology, TooManyRewritings}
 use Rattle.job_sources.specs.declared.refusal.Refusal.TheVariants.{BadDocument, BadQueries}
-use Rattle.job_sources.specs.declared.refusal.Refusal.TheVariants.{NotALeaf}
+use Rattle.job_sources.specs.declared.refusal.Refusal.TheVariants.{NotALeaf, TooLarge}
 use Rattle.job_sources.specs.FileNames.{FileNames}
 use Rattle.job_sources.specs.OntologyForms.{SaysAs, IsFaultyAs}
 use Rattle.job_sources.specs.Opening.{HasText, Is}
@@ -68,6 +68,7 @@ AreFaulty owl is_ontology is_queries (BadQueries line kind) =
     HasQueriesFault owl is_ontology is_queries line kind
 AreFaulty owl is_ontology is_queries TooManyRewritings = ⊥
 AreFaulty owl is_ontology is_queries (NotALeaf name) = ⊥
+AreFaulty owl is_ontology is_queries (TooLarge total) = ⊥
 
 -- ---- what a job takes of what they say
 

@@ -18,4 +18,6 @@ pub enum Refusal {
     BadQueries(u64, QueryKind),
     /// The first query whose root is no leaf that names all its answer variables.
     NotALeaf(ShortName),
+    /// The units of the queries, which are more than the job takes.
+    TooLarge(u128),
 }

@@ -14,7 +14,7 @@ use Rattle.stream_report.proofs.TextEndings.{text_leaves}
 use Rattle.job_sources.specs.declared.refusal.Refusal.{Refusal}
 use Rattle.job_sources.specs.declared.refusal.Refusal.TheVariants.{BadOntology, TooManyRewritings}
 use Rattle.job_sources.specs.declared.refusal.Refusal.TheVariants.{BadDocument, BadQueries}
-use Rattle.job_sources.specs.declared.refusal.Refusal.TheVariants.{NotALeaf}
+use Rattle.job_sources.specs.declared.refusal.Refusal.TheVariants.{NotALeaf, TooLarge}
 use Rattle.monitor_run.specs.declared.status.Status.TheVariants as status
 use Rattle.monitor_run.specs.Ends.{status_of, status_of_refusal}
 use Rattle.job_sources.specs.FileNames.{FileNames}
@@ -71,6 +71,7 @@ refusal_is_no_usage (BadDocument line kind) is = cc
 refusal_is_no_usage TooManyRewritings is = cc
 refusal_is_no_usage (BadQueries line kind) is = cc
 refusal_is_no_usage (NotALeaf name) is = cc
+refusal_is_no_usage (TooLarge total) is = cc
 
 usage_untouched : (words : List (List ℕ)) (before now : Outside) (ending : Ending Refusal)
     → status.Usage ≡ status_of ending → RunEnds ending words before now → now ≡ before

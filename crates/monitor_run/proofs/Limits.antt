@@ -17,7 +17,7 @@ use Rattle.stream_report.proofs.ReportLaws.{limit_is_exact}
 use Rattle.job_sources.specs.declared.refusal.Refusal.{Refusal}
 use Rattle.job_sources.specs.declared.refusal.Refusal.TheVariants.{BadOntology, TooManyRewritings}
 use Rattle.job_sources.specs.declared.refusal.Refusal.TheVariants.{BadDocument, BadQueries}
-use Rattle.job_sources.specs.declared.refusal.Refusal.TheVariants.{NotALeaf}
+use Rattle.job_sources.specs.declared.refusal.Refusal.TheVariants.{NotALeaf, TooLarge}
 use Rattle.monitor_run.specs.declared.status.Status.TheVariants as status
 use Rattle.monitor_run.specs.Ends.{status_of, status_of_refusal}
 use Rattle.job_sources.specs.FileNames.{FileNames}
@@ -39,6 +39,7 @@ no_refusal_status (BadDocument line kind) is = cc
 no_refusal_status TooManyRewritings is = cc
 no_refusal_status (BadQueries line kind) is = cc
 no_refusal_status (NotALeaf name) is = cc
+no_refusal_status (TooLarge total) is = cc
 
 -- the status of the limit is of that ending alone
 at_limit : (ending : Ending Refusal) → status_of ending ≡ status.StreamLimit → ending ≡ StreamLimit

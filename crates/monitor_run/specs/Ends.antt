@@ -10,7 +10,7 @@ use Rattle.stream_report.specs.declared.ending.Ending.TheVariants.{WriteFault, M
 use Rattle.job_sources.specs.declared.refusal.Refusal.{Refusal}
 use Rattle.job_sources.specs.declared.refusal.Refusal.TheVariants.{BadOntology, TooManyRewritings}
 use Rattle.job_sources.specs.declared.refusal.Refusal.TheVariants.{BadDocument, BadQueries}
-use Rattle.job_sources.specs.declared.refusal.Refusal.TheVariants.{NotALeaf}
+use Rattle.job_sources.specs.declared.refusal.Refusal.TheVariants.{NotALeaf, TooLarge}
 use Rattle.owl_reader.specs.declared.reading.OwlKind.{OwlKind}
 use Rattle.owl_reader.specs.declared.reading.OwlKind.TheVariants as document_kind
 use Rattle.monitor_run.specs.declared.status.Status.{Status}
@@ -24,6 +24,7 @@ status_of_refusal (BadDocument line kind) = status.BadOntology
 status_of_refusal TooManyRewritings = status.BadOntology
 status_of_refusal (BadQueries line kind) = status.BadQueries
 status_of_refusal (NotALeaf name) = status.BadQueries
+status_of_refusal (TooLarge total) = status.BadQueries
 
 abbrev pub status_of : Ending Refusal → Status
 status_of Done = status.Done
@@ -72,6 +73,7 @@ refusal_text TooManyRewritings = codes "ontology: too-many-rewritings"
 refusal_text (BadQueries line kind) =
     codes "queries line " ++ decimal line ++ codes ": " ++ query_kind_text kind
 refusal_text (NotALeaf name) = codes "queries: not-a-leaf " ++ name_in name
+refusal_text (TooLarge total) = codes "queries: too-large " ++ decimal total
 
 -- what is said of an ending that is said
 abbrev pub message_of : Ending Refusal → List ℕ

@@ -130,6 +130,7 @@ fn refusal_status(refusal: Refusal) -> Status
         Refusal::TooManyRewritings => Status::BadOntology,
         Refusal::BadQueries(_, _) => Status::BadQueries,
         Refusal::NotALeaf(_) => Status::BadQueries,
+        Refusal::TooLarge(_) => Status::BadQueries,
     }
 }
 

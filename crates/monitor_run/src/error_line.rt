@@ -146,6 +146,16 @@ fn put_no_leaf(out: &mut ArrayVec<u8, 256>, name: ShortName)
     put(out, b"\n");
 }
 
+/// The line of queries that are too large for the job.
+fn put_too_large(out: &mut ArrayVec<u8, 256>, total: u128)
+    requires { array_vec_len out.old ≡ 0 }
+    ensures { out.new.items ≡ out.old.items ++ line_of (Ending.Refused (Refusal.TooLarge total)) }
+{
+    put(out, b"tom: queries: ");
+    put_total(out, total);
+    put(out, b"\n");
+}
+
 /// The line of a refusal.
 fn put_refusal(out: &mut ArrayVec<u8, 256>, refusal: Refusal)
     requires { array_vec_len out.old ≡ 0 }
@@ -157,6 +167,7 @@ fn put_refusal(out: &mut ArrayVec<u8, 256>, refusal: Refusal)
         Refusal::TooManyRewritings => put(out, b"tom: ontology: too-many-rewritings\n"),
         Refusal::BadQueries(line, kind) => put_query_fault(out, line, kind),
         Refusal::NotALeaf(name) => put_no_leaf(out, name),
+        Refusal::TooLarge(total) => put_too_large(out, total),
     }
 }
 
