@@ -5,8 +5,9 @@ mod Sayings
 mod Sizes
 mod Spelled
 mod MadeStream
-mod ReplyLaws
+pub mod ReplyLaws
 mod Arrivals
+mod ClosedLines
 mod HistoryLaws
 mod Rehearsals
 pub mod OneReport

@@ -11,4 +11,6 @@ mod watching;
 
 pub use drilling::drill;
 pub use options::Options;
+pub use rehearsing::plain;
+pub use telling::tell;
 pub use watching::watch_files;

@@ -38,7 +38,7 @@ struct Rehearser {
 }
 
 /// All in text form, and no sizes.
-fn plain() -> Options
+pub fn plain() -> Options
     ensures { result ≡ plain }
 {
     Options {

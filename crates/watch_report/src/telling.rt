@@ -1,6 +1,6 @@
 //! What is told of a line, gathered in a buffer.
 
-ghost use Rattle.std.specs.Prelude.{◌≡◌, ◌++◌, ◌∷◌, [], ◌≤◌, ℕ};
+ghost use Rattle.std.specs.Prelude.{◌≡◌, ◌++◌, ◌∷◌, [], ◌≤◌, ℕ, false};
 ghost use Rattle.std.specs.Prelude.{List, Ok, Err, IfOk, OnOk, OnErr, Some, length};
 ghost use Rattle.dl_syntax.specs.Names.{IsName, IsDeclarable};
 ghost use Rattle.dl_syntax.specs.Ontology.{Declared};
@@ -15,6 +15,7 @@ ghost use Rattle.report_text.specs.Names.{AreSpelled, IsSpelledCause};
 ghost use Rattle.report_text.specs.Events.{HasSizes, HasAnswers, IsSpelledEvent, EventHasNames};
 ghost use Rattle.monitor_core.specs.Answering.{AreOver, AreRowsOf, AreAllAnswers};
 ghost use Rattle.monitor_core.specs.Standing.{setting_of, Stands};
+ghost use Rattle.monitor_core.specs.Exchanging.{watched_of};
 ghost use Rattle.watch_report.specs.Task.{own_setting, task_of};
 ghost use Rattle.watch_report.specs.Told.{AreSizes, AreAskedSizes, TellsAccepted};
 ghost use Rattle.watch_report.specs.Report.{bytes_of_event, refused_in};
@@ -139,6 +140,7 @@ fn take(
 ) -> Result<Event, Memory>
     requires { AreOver (setting_of monitor.old).ontology snapshot.now }
     ensures setting { setting_of monitor.new ≡ setting_of monitor.old }
+    ensures watched { watched_of monitor.new ≡ watched_of monitor.old }
     ensures own { own_setting monitor.new ≡ own_setting monitor.old }
     ensures answers { IfOk result
         (HasAnswers (setting_of monitor.old).ontology (setting_of monitor.old).queries) }
@@ -180,6 +182,8 @@ fn declare(
     requires name { IsDeclarable name }
     requires queries { AreSpelled (setting_of monitor.old).queries }
     ensures own { own_setting monitor.new ≡ own_setting monitor.old }
+    ensures closed { monitor.old.strangers ≡ false →
+        watched_of monitor.new ≡ watched_of monitor.old }
     ensures err { OnErr result (setting_of monitor.new ≡ setting_of monitor.old) }
     ensures names { IfOk result (λ event.
         EventHasNames (setting_of monitor.new).ontology (setting_of monitor.new).queries event) }
@@ -208,6 +212,8 @@ fn ask_text(
 ) -> Result<Option<Event>, Memory>
     requires { AreSpelled (setting_of monitor.old).queries }
     ensures own { own_setting monitor.new ≡ own_setting monitor.old }
+    ensures closed { monitor.old.strangers ≡ false →
+        watched_of monitor.new ≡ watched_of monitor.old }
     ensures err { OnErr result (setting_of monitor.new ≡ setting_of monitor.old) }
     ensures names { IfOk result
         (KeepsNames (setting_of monitor.old) (setting_of monitor.new)) }
@@ -241,6 +247,8 @@ pub fn ask(
 ) -> Result<Option<Event>, Memory>
     requires { AreSpelled (setting_of monitor.old).queries }
     ensures own { own_setting monitor.new ≡ own_setting monitor.old }
+    ensures closed { monitor.old.strangers ≡ false →
+        watched_of monitor.new ≡ watched_of monitor.old }
     ensures err { OnErr result (setting_of monitor.new ≡ setting_of monitor.old) }
     ensures names { IfOk result
         (KeepsNames (setting_of monitor.old) (setting_of monitor.new)) }
@@ -299,6 +307,8 @@ pub fn tell(
 ) -> Result<u64, Memory>
     requires { AreSpelled (setting_of monitor.old).queries }
     ensures own { own_setting monitor.new ≡ own_setting monitor.old }
+    ensures closed { monitor.old.strangers ≡ false →
+        watched_of monitor.new ≡ watched_of monitor.old }
     ensures small { IfOk result (λ refused. refused ≤ 1) }
     ensures ok { IfOk result (λ refused. (history : History) → Stands monitor.old history →
         Replied options monitor.old monitor.new (item_of line.entry) number history

@@ -6,6 +6,7 @@ use Rattle.monitor_core.specs.Keeping.{Monitored}
 use Rattle.monitor_core.specs.Standing.{AreAcceptableTo, Declares, IsRefusedBy}
 use Rattle.watch_report.specs.Replies.{AcceptsLine}
 use Rattle.watch_report.proofs.Arrivals.{named_line, refused_line}
+use Rattle.watch_report.proofs.ClosedLines.{never_declared}
 use Rattle.watch_report.proofs.telling.declare.Goals as goal
 
 pub returns-in-Ok-clause-ok : goal.returns-in-Ok-clause-ok
@@ -16,6 +17,12 @@ returns-in-Ok-clause-ok c = λ history line stands is.
     (subst (AreAcceptableTo m) one c.in-Ok.ensures.acceptable)
     (subst (λ (names : List (List ℕ)). Declares m c.declare.new.self names) one c.in-Ok.ensures.ok
     history stands)
+
+pub returns-in-Ok-clause-closed : goal.returns-in-Ok-clause-closed
+returns-in-Ok-clause-closed c = λ closed.
+    let m = c.args.monitor.now in
+    absurd (never_declared m c.args.name
+    (subst (AreAcceptableTo m) c.from_ref.ensures.value c.in-Ok.ensures.acceptable) closed)
 
 pub returns-in-Ok-cause_of_name-clause-ok : goal.returns-in-Ok-cause_of_name-clause-ok
 returns-in-Ok-cause_of_name-clause-ok c = λ history line stands is.

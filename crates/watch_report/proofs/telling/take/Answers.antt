@@ -2,6 +2,7 @@ use Rattle.std.proofs.Common.{Err, ◌∙◌, ap}
 use Rattle.monitor_core.specs.declared.accept_fault.AcceptFault.{AcceptFault}
 use Rattle.watch_report.proofs.ReplyLaws.{all_accepted, all_refused}
 use Rattle.watch_report.proofs.OwnSettings.{own_stays}
+use Rattle.watch_report.proofs.ClosedLines.{same_watched}
 use Rattle.watch_report.proofs.telling.take.Goals as goal
 
 pub returns-in-Err-clause-ok : goal.returns-in-Err-clause-ok
@@ -25,3 +26,11 @@ returns-in-Ok-clause-own c = own_stays c.args.monitor.now c.accept.new.self c.ac
 pub returns-in-Err-clause-own : goal.returns-in-Err-clause-own
 returns-in-Err-clause-own c = own_stays c.args.monitor.now c.accept.new.self
     c.accept.ensures.setting c.accept.ensures.declared
+
+pub returns-in-Ok-clause-watched : goal.returns-in-Ok-clause-watched
+returns-in-Ok-clause-watched c = same_watched c.args.monitor.now c.accept.new.self
+    c.accept.ensures.plan c.accept.ensures.strangers c.accept.ensures.declared
+
+pub returns-in-Err-clause-watched : goal.returns-in-Err-clause-watched
+returns-in-Err-clause-watched c = same_watched c.args.monitor.now c.accept.new.self
+    c.accept.ensures.plan c.accept.ensures.strangers c.accept.ensures.declared
