@@ -1,5 +1,5 @@
 -- What runs leave as it was.
-use Rattle.std.proofs.Common.{◌≡◌, ℕ, Bool, inl, inr, List, sym, ◌∙◌, ap}
+use Rattle.std.proofs.Common.{◌≡◌, ℕ, inl, inr, List, sym, ◌∙◌, ap}
 use Rattle.std.specs.Prelude.{◌⊎◌}
 use Rattle.command_words.specs.declared.request.FilesCommand.{FilesCommand}
 use Rattle.command_words.specs.declared.request.FilesCommand.TheVariants.{Rewrite, Contain, Audit}
@@ -24,7 +24,8 @@ use Rattle.monitor_run.specs.Jobs.{asked_by, command_on}
 use Rattle.monitor_run.specs.Laws.{DrillLeaves, ReadsNoInput, InputStays, UsageLeaves}
 use Rattle.monitor_run.specs.Laws.{RefusalLeaves}
 use Rattle.monitor_run.specs.Running.{JobEnds, AskedEnds, RunEnds}
-use Rattle.monitor_run.proofs.FilesJobs.{IsLeft, JobOnFiles, refused_left, stream_takes, text_takes}
+use Rattle.monitor_run.proofs.FilesJobs.{IsLeft, JobOnFiles, refused_reading}
+use Rattle.monitor_run.proofs.FilesJobs.{refused_writing}
 use Rattle.monitor_run.proofs.Completing.{by_meaning}
 
 drill_leaves_both : (seed count : ℕ) (before now : Outside) (ending : Ending Refusal)
@@ -91,27 +92,23 @@ refused_command : (command : FilesCommand) (names : FileNames) (refusal : Refusa
     (before now : Outside) → JobEnds (OnFiles command) names (Refused refusal) before now
     → IsLeft before now
 refused_command Rewrite names refusal before now =
-    refused_left _ names _ before now refusal
-    (λ setting. text_takes _ refusal before.ports now.ports)
+    refused_writing _ names _ before now refusal
 refused_command Contain names refusal before now =
-    refused_left _ names _ before now refusal
-    (λ setting. text_takes _ refusal before.ports now.ports)
+    refused_writing _ names _ before now refusal
 refused_command Audit names refusal before now =
-    refused_left _ names _ before now refusal
-    (λ setting. stream_takes _ _ refusal before.ports now.ports)
+    refused_reading _ names _ _ before now refusal
 
 refused_leaves : (means : Meaning) (refusal : Refusal) (before now : Outside)
     → AskedEnds (asked_by means) (Refused refusal) before now → IsLeft before now
-refused_leaves (meaning.watch w) refusal before now =
-    refused_left _ _ _ before now refusal
-    (λ setting. stream_takes _ _ refusal before.ports now.ports)
-refused_leaves (meaning.on_files command o q owl) refusal before now =
+refused_leaves (meaning.watch w) refusal before now ends =
+    refused_reading _ _ _ _ before now refusal ends
+refused_leaves (meaning.on_files command o q owl) refusal before now ends =
     refused_command command (record { ontology = o; queries = q; owl = owl }) refusal before now
+    ends
 refused_leaves (meaning.drill seed count) refusal before now (files, inl (fails, untouched)) =
     (files, untouched.input, untouched.out)
 refused_leaves (meaning.drill seed count) refusal before now
-    (files, inr (setting, opens, ends)) =
-    absurd (text_takes _ refusal before.ports now.ports ends)
+    (files, inr (setting, opens, (input, (text, is, written), fault))) = absurd written.is
 
 by_refusal : (words : List (List ℕ)) (before now : Outside) (ending : Ending Refusal)
     → (status_of ending ≡ status.BadOntology) ⊎ (status_of ending ≡ status.BadQueries)

@@ -18,29 +18,28 @@ use Rattle.job_sources.specs.FileNames.{FileNames}
 use Rattle.monitor_run.specs.declared.jobs.Job.TheVariants.{OnFiles}
 use Rattle.monitor_run.specs.Jobs.{asked_by}
 use Rattle.monitor_run.specs.Running.{JobEnds, AskedEnds, RunEnds, Says}
-use Rattle.monitor_run.proofs.FilesJobs.{means_something, stream_means, text_means}
+use Rattle.monitor_run.proofs.FilesJobs.{reading_means, writing_means}
 
 -- no command ends as words that mean nothing
 never_usage_on : (command : FilesCommand) (names : FileNames) (before now : Outside)
     → ¬ JobEnds (OnFiles command) names Usage before now
 never_usage_on Rewrite names before now =
-    means_something _ names _ before now (λ setting. text_means _ before.ports now.ports)
+    writing_means _ names _ before now
 never_usage_on Contain names before now =
-    means_something _ names _ before now (λ setting. text_means _ before.ports now.ports)
+    writing_means _ names _ before now
 never_usage_on Audit names before now =
-    means_something _ names _ before now (λ setting. stream_means _ _ before.ports now.ports)
+    reading_means _ names _ _ before now
 
 pub never_usage : (means : Meaning) (before now : Outside)
     → ¬ AskedEnds (asked_by means) Usage before now
-never_usage (meaning.watch w) before now =
-    means_something _ _ _ before now (λ setting. stream_means _ _ before.ports now.ports)
-never_usage (meaning.on_files command o q owl) before now =
-    never_usage_on command (record { ontology = o; queries = q; owl = owl }) before now
+never_usage (meaning.watch w) before now ends = reading_means _ _ _ _ before now ends
+never_usage (meaning.on_files command o q owl) before now ends =
+    never_usage_on command (record { ontology = o; queries = q; owl = owl }) before now ends
 never_usage (meaning.drill seed count) before now (stay, inl (inl unread, untouched)) = unread
 never_usage (meaning.drill seed count) before now
     (stay, inl (inr (setting, say, refused), untouched)) = refused
-never_usage (meaning.drill seed count) before now (stay, inr (setting, opens, ends)) =
-    text_means _ before.ports now.ports ends
+never_usage (meaning.drill seed count) before now
+    (stay, inr (setting, opens, (input, (text, is, written), fault))) = written.is
 
 -- what the words mean was done
 pub performed : (ending : Ending Refusal) (words : List (List ℕ)) (means : Meaning)

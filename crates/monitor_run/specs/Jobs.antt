@@ -1,5 +1,5 @@
 -- What the words ask for: a job on files, or a drill.
-use Rattle.std.specs.Prelude.{ℕ, List}
+use Rattle.std.specs.Prelude.{ℕ}
 use Rattle.command_words.specs.declared.request.FilesCommand.{FilesCommand}
 use Rattle.command_words.specs.Meanings.{Meaning, Watching}
 use Rattle.command_words.specs.Meanings as meaning

@@ -1,4 +1,4 @@
-use Rattle.std.proofs.Common.{◌≡◌, ◌++◌, ◌∙◌, ℕ, List, ap, append_assoc, codes}
+use Rattle.std.proofs.Common.{◌++◌, ◌∙◌, ℕ, List, ap, append_assoc, codes}
 use Rattle.monitor_run.proofs.error_line.put_unsupported.Goals as goal
 
 pub returns-clause-items : goal.returns-clause-items
