@@ -23,6 +23,7 @@ pub fn files_word(command: FilesCommand) -> &'static str
         FilesCommand::Rewrite => "rewrite",
         FilesCommand::Contain => "contain",
         FilesCommand::Audit => "audit",
+        FilesCommand::Explain => "explain",
     }
 }
 
@@ -34,6 +35,7 @@ fn files_named(word: &str) -> Option<FilesCommand>
         "rewrite" => Some(FilesCommand::Rewrite),
         "contain" => Some(FilesCommand::Contain),
         "audit" => Some(FilesCommand::Audit),
+        "explain" => Some(FilesCommand::Explain),
         _ => None,
     }
 }

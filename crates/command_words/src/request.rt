@@ -33,6 +33,8 @@ pub enum FilesCommand {
     Contain,
     /// Audits models of the ontology, and answers the queries in them.
     Audit,
+    /// Shows each answer of the queries' leaves, and each contradiction, by a run of the chase.
+    Explain,
 }
 
 /// A command on files, with the names of its two files and its option.

@@ -63,6 +63,7 @@ fn accepts_rewritings_and_drills(rt: HostRuntime) -> Result<(), Fail> {
         ("rewrite O Q", on_files(FilesCommand::Rewrite, false)),
         ("contain O Q", on_files(FilesCommand::Contain, false)),
         ("audit O Q", on_files(FilesCommand::Audit, false)),
+        ("explain O Q", on_files(FilesCommand::Explain, false)),
         ("drill 0 0", Request::Drill { seed: 0, count: 0 }),
         ("drill 7 3", Request::Drill { seed: 7, count: 3 }),
         (
@@ -94,6 +95,7 @@ fn accepts_documents(rt: HostRuntime) -> Result<(), Fail> {
         ("watch --owl O Q --sizes", watch),
         ("rewrite O Q --owl", on_files(FilesCommand::Rewrite, true)),
         ("contain --owl O Q", on_files(FilesCommand::Contain, true)),
+        ("explain O Q --owl", on_files(FilesCommand::Explain, true)),
     ] {
         let words = words_of(rt.alloc(), line)?;
         assert_eq!(rt; read_words(rt.alloc(), &words), Ok(request), "{line}");
@@ -143,6 +145,7 @@ fn refuses_other_words(rt: HostRuntime) -> Result<(), Fail> {
         "contain O",
         "contain O Q --sizes",
         "audit O",
+        "explain O",
         "drill 1",
         "drill 1 1 1",
         "drill 1 1 --sizes",
