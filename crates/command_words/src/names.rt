@@ -24,6 +24,7 @@ pub fn files_word(command: FilesCommand) -> &'static str
         FilesCommand::Contain => "contain",
         FilesCommand::Audit => "audit",
         FilesCommand::Explain => "explain",
+        FilesCommand::Verify => "verify",
     }
 }
 
@@ -36,6 +37,7 @@ fn files_named(word: &str) -> Option<FilesCommand>
         "contain" => Some(FilesCommand::Contain),
         "audit" => Some(FilesCommand::Audit),
         "explain" => Some(FilesCommand::Explain),
+        "verify" => Some(FilesCommand::Verify),
         _ => None,
     }
 }

@@ -35,6 +35,8 @@ pub enum FilesCommand {
     Audit,
     /// Shows each answer of the queries' leaves, and each contradiction, by a run of the chase.
     Explain,
+    /// Checks proofs of answers and of contradictions.
+    Verify,
 }
 
 /// A command on files, with the names of its two files and its option.

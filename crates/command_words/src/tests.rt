@@ -64,6 +64,7 @@ fn accepts_rewritings_and_drills(rt: HostRuntime) -> Result<(), Fail> {
         ("contain O Q", on_files(FilesCommand::Contain, false)),
         ("audit O Q", on_files(FilesCommand::Audit, false)),
         ("explain O Q", on_files(FilesCommand::Explain, false)),
+        ("verify O Q", on_files(FilesCommand::Verify, false)),
         ("drill 0 0", Request::Drill { seed: 0, count: 0 }),
         ("drill 7 3", Request::Drill { seed: 7, count: 3 }),
         (
@@ -95,6 +96,7 @@ fn accepts_documents(rt: HostRuntime) -> Result<(), Fail> {
         ("watch --owl O Q --sizes", watch),
         ("rewrite O Q --owl", on_files(FilesCommand::Rewrite, true)),
         ("contain --owl O Q", on_files(FilesCommand::Contain, true)),
+        ("verify O Q --owl", on_files(FilesCommand::Verify, true)),
         ("explain O Q --owl", on_files(FilesCommand::Explain, true)),
     ] {
         let words = words_of(rt.alloc(), line)?;
@@ -145,6 +147,7 @@ fn refuses_other_words(rt: HostRuntime) -> Result<(), Fail> {
         "contain O",
         "contain O Q --sizes",
         "audit O",
+        "verify O",
         "explain O",
         "drill 1",
         "drill 1 1 1",
