@@ -5,6 +5,7 @@ use Rattle.edge_io.specs.Causes.{Rose}
 use Rattle.edge_io.specs.Known.{Takes}
 use Rattle.command_words.specs.declared.request.FilesCommand.{FilesCommand}
 use Rattle.command_words.specs.declared.request.FilesCommand.TheVariants.{Rewrite, Contain, Audit}
+use Rattle.command_words.specs.declared.request.FilesCommand.TheVariants.{Explain, Verify}
 use Rattle.command_words.specs.Meanings.{Meaning, watch, drill, meaning_of_words}
 use Rattle.stream_report.specs.declared.ending.Ending.{Ending}
 use Rattle.stream_report.specs.declared.ending.Ending.TheVariants.{Done, Usage, Refused, ReadFault}
@@ -153,6 +154,10 @@ command_done Rewrite names before now files input =
 command_done Contain names before now files input =
     writing_done refuses_no_leaf names _ before now files
 command_done Audit names before now files input =
+    reading_done nothing_more names _ _ before now files input
+command_done Explain names before now files input =
+    reading_done nothing_more names _ _ before now files input
+command_done Verify names before now files input =
     reading_done nothing_more names _ _ before now files input
 
 pub command_completeness : CommandCompleteness

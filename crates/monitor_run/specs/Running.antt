@@ -3,6 +3,7 @@ use Rattle.std.specs.Prelude.{◌≡◌, ◌⊎◌, List, ℕ, None, Some}
 use Rattle.edge_io.specs.Causes.{Rose}
 use Rattle.edge_io.specs.Known.{Gains, IsFront}
 use Rattle.command_words.specs.declared.request.FilesCommand.TheVariants.{Rewrite, Contain, Audit}
+use Rattle.command_words.specs.declared.request.FilesCommand.TheVariants.{Explain, Verify}
 use Rattle.command_words.specs.Meanings.{Meaning, meaning_of_words}
 use Rattle.stream_report.specs.declared.ending.Ending.{Ending}
 use Rattle.stream_report.specs.declared.ending.Ending.TheVariants.{Usage, Memory}
@@ -13,6 +14,8 @@ use Rattle.rewriting_text.specs.Ends.{RewriteEnds}
 use Rattle.containment_text.specs.Ends.{ContainEnds}
 use Rattle.watch_report.specs.Ends.{WatchEnds, DrillEnds}
 use Rattle.audit_report.specs.Ends.{AuditEnds}
+use Rattle.explain_report.specs.Ends.{ExplainEnds}
+use Rattle.verify_report.specs.Ends.{VerifyEnds}
 use Rattle.monitor_run.specs.declared.status.Status.{Status}
 use Rattle.monitor_run.specs.declared.jobs.Job.{Job}
 use Rattle.monitor_run.specs.declared.jobs.Job.TheVariants.{Watch, OnFiles}
@@ -25,6 +28,8 @@ JobEnds (Watch options) names ending before now = WatchEnds options names ending
 JobEnds (OnFiles Rewrite) names ending before now = RewriteEnds names ending before now
 JobEnds (OnFiles Contain) names ending before now = ContainEnds names ending before now
 JobEnds (OnFiles Audit) names ending before now = AuditEnds names ending before now
+JobEnds (OnFiles Explain) names ending before now = ExplainEnds names ending before now
+JobEnds (OnFiles Verify) names ending before now = VerifyEnds names ending before now
 
 -- how what is asked for ended. A drill touches no file
 abbrev pub AskedEnds : Asked → Ending Refusal → Outside → Outside → Type 0

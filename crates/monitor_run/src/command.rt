@@ -16,10 +16,12 @@ use audit_report::audit_files;
 use command_words::{FilesCommand, Request, WordsFault, read_words};
 use containment_text::contain_files;
 use edge_io::{Files, Sink, Source, write_all};
+use explain_report::explain_files;
 use job_sources::{Names, Refusal};
 use rewriting_text::rewrite_files;
 use std::alloc::Global;
 use stream_report::Ending;
+use verify_report::verify_files;
 use watch_report::{drill, watch_files};
 
 /// Does a command on the files of these names.
@@ -39,6 +41,8 @@ fn do_command<F: Files, S: Source, K: Sink>(
         FilesCommand::Rewrite => rewrite_files(alloc, names, files, out),
         FilesCommand::Contain => contain_files(alloc, names, files, out),
         FilesCommand::Audit => audit_files(alloc, names, files, input, out),
+        FilesCommand::Explain => explain_files(alloc, names, files, input, out),
+        FilesCommand::Verify => verify_files(alloc, names, files, input, out),
     }
 }
 
@@ -161,7 +165,10 @@ fn say<E: Sink>(ending: Ending<Refusal>, err: &mut E)
 /// files and writes the rewritings of all leaves to `out`; `contain ONTOLOGY QUERIES` reads the two
 /// files and writes to `out` which queries are contained in which others; `audit ONTOLOGY QUERIES`
 /// reads the two files, audits the models of `input` to its end and writes to `out` what is found
-/// of each; `drill SEED COUNT` makes an ontology, queries and a stream, watches it, and writes to
+/// of each; `explain ONTOLOGY QUERIES` reads the two files, explains the lines of `input` to its end
+/// and writes to `out` a proof of each answer and of each contradiction; `verify ONTOLOGY QUERIES`
+/// reads the two files, checks the proofs of `input` to its end and writes to `out` which of them
+/// show what they say; `drill SEED COUNT` makes an ontology, queries and a stream, watches it, and writes to
 /// `out` what its last snapshot tells and the end of the report. What a status means is told on
 /// `err`.
 pub fn run<F: Files, S: Source, K: Sink, E: Sink>(

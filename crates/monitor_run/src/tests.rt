@@ -3,6 +3,7 @@
 ghost use Rattle.std.specs.Prelude.{◌≤◌};
 
 mod answers;
+mod certificates;
 mod containing;
 mod documents;
 mod limits;
