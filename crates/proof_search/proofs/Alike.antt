@@ -27,10 +27,13 @@ use Rattle.ucq_join.specs.Answers.{IsUnionAnswer}
 use Rattle.consistency.specs.Asking.{query_of}
 use Rattle.consistency.specs.Least.{IsFirstClash}
 use Rattle.consistency.proofs.ClashQueries.{clash_is_asked, query_is_declared}
+use Rattle.proof_search.specs.declared.bindings.Binding.{Binding}
+use Rattle.proof_search.specs.Bindings.{assigned_by}
+use Rattle.proof_search.specs.Matching.{IsMatchedBy}
 use Rattle.proof_search.specs.Explaining.{AreCertainRows, HaveSame}
 
 -- what a query gives in facts it gives in more
-gives_more : (q : Cq) (facts other : List Fact) (row : List IndId)
+pub gives_more : (q : Cq) (facts other : List Fact) (row : List IndId)
     → ((f : Fact) → Contains facts f → Contains other f) → Gives q facts (map ind_element row)
     → Gives q other (map ind_element row)
 gives_more q facts other row more given = record {
@@ -39,6 +42,17 @@ gives_more q facts other row more given = record {
       (λ (a : Atom). Contains other (atom_at given.assignment a))
       (λ a there. more (atom_at given.assignment a) there) q.body given.match;
   head = given.head;
+}
+
+-- and a match there is one in more
+pub matched_more : (q : Cq) (facts other : List Fact) (row : List IndId) (bs : List Binding)
+    → ((f : Fact) → Contains facts f → Contains other f) → IsMatchedBy q facts row bs
+    → IsMatchedBy q other row bs
+matched_more q facts other row bs more is = record {
+  match = All-weaker (λ (a : Atom). Contains facts (atom_at (assigned_by bs) a))
+      (λ (a : Atom). Contains other (atom_at (assigned_by bs) a))
+      (λ a there. more (atom_at (assigned_by bs) a) there) q.body is.match;
+  head = is.head;
 }
 
 module _ (o : Declared) where

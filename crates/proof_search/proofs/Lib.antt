@@ -1,4 +1,5 @@
 pub mod Extensions
+pub mod Candidates
 pub mod Matched
 pub mod Growing
 pub mod Linked
@@ -12,3 +13,5 @@ pub mod Serves
 pub mod Meeting
 pub mod Goals
 pub mod Alike
+pub mod LeavesAt
+pub mod Explained

@@ -20,6 +20,7 @@ use Rattle.dl_syntax.specs.Match.{Assignment, Match, term_at, atom_at}
 use Rattle.query_unify.specs.Laws.{Gives}
 use Rattle.proof_search.specs.declared.bindings.Binding.{Binding}
 use Rattle.proof_search.specs.Bindings.{bind_term, bind_atom, Extends, assigned_by}
+use Rattle.proof_search.specs.Known.{IsComplete}
 use Rattle.proof_search.specs.Matching.{HasMatch, HasMatchAt, HasMatchAmong, Binds, BindsAt}
 use Rattle.proof_search.specs.Matching.{HeadBecomes, BindsHead, IsMatchedBy}
 use Rattle.proof_search.proofs.Extensions.{Extends-assigned, Narrows, bind_atom_law, bind_term_law}
@@ -38,10 +39,11 @@ module _ (facts : List Fact) (a : Atom) (rest : List Atom) (bs : List Binding) w
   pub apart_none : HasMatchAmong facts a rest bs [] → ⊥
   apart_none m = absurd (omega (arith, m.1.1))
 
-  pub match_among : HasMatch facts (a ∷ rest) bs → HasMatchAmong facts a rest bs facts
-  match_among m = (
+  pub match_among : (fs : List Fact) → IsComplete bs a facts fs → HasMatch facts (a ∷ rest) bs
+      → HasMatchAmong facts a rest bs fs
+  match_among fs complete m = (
     atom_at m.0 a,
-    All-head (λ b. Contains facts (atom_at m.0 b)) a rest m.2,
+    complete m.0 m.1 (All-head (λ b. Contains facts (atom_at m.0 b)) a rest m.2),
     (m.0, m.1, refl, All-tail (λ b. Contains facts (atom_at m.0 b)) a rest m.2),
   )
 

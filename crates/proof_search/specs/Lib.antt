@@ -1,4 +1,5 @@
 pub mod Bindings
+pub mod Known
 pub mod Matching
 pub mod Reached
 pub mod Origin
@@ -7,3 +8,4 @@ pub mod Walk
 pub mod Search
 pub mod Explaining
 pub mod Goals
+pub mod Explainer

@@ -18,6 +18,7 @@ ghost use Rattle.proof_search.specs.Search.{IsRewriting};
 
 use crate::bindings::Binding;
 use crate::fault::ProofFault;
+use crate::known::Known;
 use crate::matching::{element_of, find_match};
 use crate::meets::meeting_shown;
 use crate::reached::Reached;
@@ -54,7 +55,7 @@ fn match_of(alloc: Global, cq: &Cq, facts: &[Fact], row: &[IndId]) -> Result<Vec
     ensures { IfOk result (λ elements. IsMatch cq.now facts.now row.now elements.items) }
 {
     let variables = variables_of(alloc, cq.body.as_slice())?;
-    match find_match(alloc, cq, facts, row)? {
+    match find_match(alloc, cq, &Known::Listed(facts), row)? {
         Some(bindings) => elements_of(alloc, bindings.as_slice(), variables.as_slice()),
         None => Ok(Vec::new(alloc)),
     }
@@ -66,11 +67,13 @@ fn answer_shown(
     cq: &Cq,
     reached: &Reached,
     facts: &[Fact],
+    index: &Index,
     row: &[IndId],
 ) -> Result<Option<Shown>, Memory>
     requires declared { IsQueryOver ontology.now cq.now }
     requires rewriting { IsRewriting ontology.now cq.now reached.now }
     requires over { IsOverOntology ontology.now facts.now }
+    requires same { HaveSame index.now facts.now }
     requires room { length facts.now < 2 ^ 31 }
     requires few { length reached.now.found.keys ≤ 2 ^ 30 }
     ensures exact { IfOk result (λ shown. MatchOption shown
@@ -79,7 +82,7 @@ fn answer_shown(
     ensures short { IfOk result (λ shown. IfSome shown
         (λ s. length s.steps.items < length reached.now.found.keys)) }
 {
-    let Some(walk) = find_walk(ontology, cq, reached, facts, row)? else {
+    let Some(walk) = find_walk(ontology, cq, reached, facts, index, row)? else {
         return Ok(None);
     };
     let elements = match_of(reached.alloc, cq, walk.known.as_slice(), row)?;
@@ -148,11 +151,13 @@ impl Search {
         ontology: &Ontology,
         cq: &Cq,
         facts: &[Fact],
+        index: &Index,
         row: &[IndId],
     ) -> Result<Option<Shown>, Memory>
         requires declared { IsQueryOver ontology.now cq.now }
         requires rewriting { IsRewriting ontology.now cq.now self.now.reached }
         requires over { IsOverOntology ontology.now facts.now }
+        requires same { HaveSame index.now facts.now }
         requires room { length facts.now < 2 ^ 31 }
         requires few { length self.now.reached.found.keys ≤ 2 ^ 30 }
         ensures exact { IfOk result (λ shown. MatchOption shown
@@ -161,7 +166,7 @@ impl Search {
         ensures short { IfOk result (λ shown. IfSome shown
             (λ s. length s.steps.items < length self.now.reached.found.keys)) }
     {
-        answer_shown(ontology, cq, &self.reached, facts, row)
+        answer_shown(ontology, cq, &self.reached, facts, index, row)
     }
 
     /// The steps of the chase and the places of two facts that show that the clash is met. They are
@@ -172,11 +177,13 @@ impl Search {
         ontology: &Ontology,
         clash: &Clash,
         facts: &[Fact],
+        index: &Index,
     ) -> Result<Option<Shown>, Memory>
         requires declared { IsDeclaredClash (length ontology.now.concepts)
             (length ontology.now.roles) clash.now }
         requires rewriting { IsRewriting ontology.now (query_of clash.now) self.now.reached }
         requires over { IsOverOntology ontology.now facts.now }
+        requires same { HaveSame index.now facts.now }
         requires room { length facts.now < 2 ^ 31 }
         requires few { length self.now.reached.found.keys ≤ 2 ^ 30 }
         ensures exact { IfOk result (λ shown. MatchOption shown
@@ -185,7 +192,7 @@ impl Search {
         ensures short { IfOk result (λ shown. IfSome shown
             (λ s. length s.steps.items < length self.now.reached.found.keys)) }
     {
-        meeting_shown(ontology, clash, &self.reached, facts)
+        meeting_shown(ontology, clash, &self.reached, facts, index)
     }
 
     /// The certain answers of the query over the facts of the index, in rising order.

@@ -6,27 +6,29 @@ ghost use Rattle.dl_syntax.specs.declared.facts.Element.TheVariants.{Ind as ind_
 ghost use Rattle.dl_syntax.specs.Match.{Assignment, term_at, atom_at};
 ghost use Rattle.query_unify.specs.Laws.{Gives};
 ghost use Rattle.proof_search.specs.Bindings.{assigned_by};
+ghost use Rattle.proof_search.specs.Known.{facts_in};
 ghost use Rattle.proof_search.specs.Matching.{HasMatch, HasMatchAt, Binds, BindsAt, BindsHead};
 ghost use Rattle.proof_search.specs.Matching.{HeadBecomes, IsMatchedBy};
 
 use crate::bindings::{Binding, bind_atom, bind_term, value_of};
+use crate::known::{Known, candidates};
 use dl_syntax::{Atom, Cq, Element, Fact, IndId, Memory, Term};
 use std::alloc::Global;
 
 /// Extends the bindings to a match of the body, where some match extends them.
 #[cycle(binding)]
-fn bind_body(facts: &[Fact], body: &[Atom], bindings: &mut Vec<Binding>) -> Result<bool, Memory>
-    ensures found { IfOk result (λ found.
-        OnTrue found (Binds facts.now body.now bindings.old.items bindings.new.items)
-        × OnFalse found (HasMatch facts.now body.now bindings.old.items → ⊥)) }
+fn bind_body(known: &Known<'_>, body: &[Atom], bindings: &mut Vec<Binding>) -> Result<bool, Memory>
+    ensures found { IfOk result (λ found. OnTrue found
+        (Binds (facts_in known.now) body.now bindings.old.items bindings.new.items)
+        × OnFalse found (HasMatch (facts_in known.now) body.now bindings.old.items → ⊥)) }
     ensures same { IfOk result (λ found.
         OnFalse found (bindings.new.items ≡ bindings.old.items)) }
 {
     let Some((atom, rest)) = body.split_first() else {
         return Ok(true);
     };
-    for fact in facts {
-        if bind_first(facts, *atom, rest, *fact, bindings)? {
+    for fact in candidates(known, *atom, bindings.as_slice()) {
+        if bind_first(known, *atom, rest, *fact, bindings)? {
             return Ok(true);
         }
     }
@@ -36,15 +38,17 @@ fn bind_body(facts: &[Fact], body: &[Atom], bindings: &mut Vec<Binding>) -> Resu
 /// The same for a match that sends the first atom to the fact.
 #[cycle(binding)]
 fn bind_first(
-    facts: &[Fact],
+    known: &Known<'_>,
     atom: Atom,
     rest: &[Atom],
     fact: Fact,
     bindings: &mut Vec<Binding>,
 ) -> Result<bool, Memory>
     ensures found { IfOk result (λ found.
-        OnTrue found (BindsAt facts.now atom rest.now fact bindings.old.items bindings.new.items)
-        × OnFalse found (HasMatchAt facts.now atom rest.now bindings.old.items fact → ⊥)) }
+        OnTrue found (BindsAt (facts_in known.now) atom rest.now fact bindings.old.items
+        bindings.new.items)
+        × OnFalse found (HasMatchAt (facts_in known.now) atom rest.now bindings.old.items fact
+        → ⊥)) }
     ensures same { IfOk result (λ found.
         OnFalse found (bindings.new.items ≡ bindings.old.items)) }
 {
@@ -53,7 +57,7 @@ fn bind_first(
         bindings.truncate(count);
         return Ok(false);
     }
-    if !bind_body(facts, rest, bindings)? {
+    if !bind_body(known, rest, bindings)? {
         bindings.truncate(count);
         return Ok(false);
     }
@@ -81,17 +85,17 @@ fn bind_head(alloc: Global, head: &[Term], row: &[IndId]) -> Result<Option<Vec<B
 pub(crate) fn find_match(
     alloc: Global,
     cq: &Cq,
-    facts: &[Fact],
+    known: &Known<'_>,
     row: &[IndId],
 ) -> Result<Option<Vec<Binding>>, Memory>
     ensures { IfOk result (λ found. MatchOption found
-        (Gives cq.now facts.now (map ind_element row.now) → ⊥)
-        (λ bs. IsMatchedBy cq.now facts.now row.now bs.items)) }
+        (Gives cq.now (facts_in known.now) (map ind_element row.now) → ⊥)
+        (λ bs. IsMatchedBy cq.now (facts_in known.now) row.now bs.items)) }
 {
     let Some(mut bindings) = bind_head(alloc, cq.head.as_slice(), row)? else {
         return Ok(None);
     };
-    if bind_body(facts, cq.body.as_slice(), &mut bindings)? {
+    if bind_body(known, cq.body.as_slice(), &mut bindings)? {
         Ok(Some(bindings))
     } else {
         Ok(None)
@@ -108,7 +112,7 @@ pub(crate) fn has_match(
     ensures { IfOk result (λ yes. IsTrue yes
         ↔ Gives cq.now facts.now (map ind_element row.now)) }
 {
-    let found = find_match(alloc, cq, facts, row)?;
+    let found = find_match(alloc, cq, &Known::Listed(facts), row)?;
     Ok(found.is_some())
 }
 

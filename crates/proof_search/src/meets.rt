@@ -8,10 +8,11 @@ ghost use Rattle.dl_syntax.specs.Match.{Assignment, Match};
 ghost use Rattle.query_unify.specs.Laws.{Gives};
 ghost use Rattle.run_proofs.specs.Matching.{MeetsAt};
 ghost use Rattle.proof_search.specs.Bindings.{assigned_by};
-ghost use Rattle.proof_search.specs.Explaining.{MeetsBy};
+ghost use Rattle.proof_search.specs.Explaining.{HaveSame, MeetsBy};
 ghost use Rattle.proof_search.specs.Search.{IsRewriting};
 
 use crate::bindings::Binding;
+use crate::known::Known;
 use crate::matching::{fact_of, find_match};
 use crate::reached::Reached;
 use crate::search::find_walk;
@@ -19,6 +20,7 @@ use crate::showing::Shown;
 use crate::sides::{query, sides};
 use crate::walk::{Walk, place_of};
 use dl_syntax::{Clash, Cq, Fact, Memory, Ontology};
+use fact_index::Index;
 use run_proofs::Ending;
 use std::alloc::Global;
 
@@ -43,7 +45,7 @@ fn places_in(alloc: Global, clash: &Clash, query: &Cq, walk: &Walk) -> Result<(u
     requires few { length walk.now.run.items < 2 ^ 32 }
     ensures { IfOk result (λ places. MeetsAt clash.now walk.now.run.items places.0 places.1) }
 {
-    match find_match(alloc, query, walk.known.as_slice(), &[])? {
+    match find_match(alloc, query, &Known::Listed(walk.known.as_slice()), &[])? {
         Some(bindings) => Ok(places_of(clash, walk.run.as_slice(), bindings.as_slice())),
         None => Ok((0, 0)),
     }
@@ -55,11 +57,13 @@ pub(crate) fn meeting_shown(
     clash: &Clash,
     reached: &Reached,
     facts: &[Fact],
+    index: &Index,
 ) -> Result<Option<Shown>, Memory>
     requires declared { IsDeclaredClash (length ontology.now.concepts)
         (length ontology.now.roles) clash.now }
     requires rewriting { IsRewriting ontology.now (query_of clash.now) reached.now }
     requires over { IsOverOntology ontology.now facts.now }
+    requires same { HaveSame index.now facts.now }
     requires room { length facts.now < 2 ^ 31 }
     requires few { length reached.now.found.keys ≤ 2 ^ 30 }
     ensures exact { IfOk result (λ shown. MatchOption shown
@@ -69,7 +73,7 @@ pub(crate) fn meeting_shown(
         (λ s. length s.steps.items < length reached.now.found.keys)) }
 {
     let query = query(reached.alloc, clash)?;
-    let Some(walk) = find_walk(ontology, &query, reached, facts, &[])? else {
+    let Some(walk) = find_walk(ontology, &query, reached, facts, index, &[])? else {
         return Ok(None);
     };
     let (first, second) = places_in(reached.alloc, clash, &query, &walk)?;

@@ -18,7 +18,8 @@ use crate::fault::ProofFault;
 use crate::naming::{clash_of, leaf_of};
 use crate::showing::Shown;
 use crate::sides::query;
-use dl_syntax::{Clash, Cq, Fact, IndId, Items, Memory, Ontology, Snapshot};
+use dl_syntax::{Clash, Cq, IndId, Items, Memory, Ontology, Snapshot};
+use fact_index::build::index;
 use run_proofs::{Goal, Proof};
 use std::alloc::Global;
 use tcq_syntax::Query;
@@ -28,7 +29,7 @@ fn shown_answer(
     alloc: Global,
     ontology: &Ontology,
     cq: &Cq,
-    facts: &[Fact],
+    facts: &Snapshot,
     row: &[IndId],
     room: u32,
 ) -> Result<Option<Shown>, ProofFault>
@@ -46,7 +47,8 @@ fn shown_answer(
         → ReachesMore ontology.now (Some cq.now) room }
 {
     let search = Search::new(alloc, ontology, cq, room)?;
-    match search.answer(ontology, cq, facts, row) {
+    let index = index(alloc, facts)?;
+    match search.answer(ontology, cq, facts.facts(), &index, row) {
         Ok(shown) => Ok(shown),
         Err(_) => Err(ProofFault::Memory),
     }
@@ -57,7 +59,7 @@ fn shown_meeting(
     alloc: Global,
     ontology: &Ontology,
     clash: &Clash,
-    facts: &[Fact],
+    facts: &Snapshot,
     room: u32,
 ) -> Result<Option<Shown>, ProofFault>
     requires declared { IsDeclaredClash (length ontology.now.concepts)
@@ -75,7 +77,8 @@ fn shown_meeting(
         → ReachesMore ontology.now (Some (query_of clash.now)) room }
 {
     let search = Search::of_clash(alloc, ontology, clash, room)?;
-    match search.meeting(ontology, clash, facts) {
+    let index = index(alloc, facts)?;
+    match search.meeting(ontology, clash, facts.facts(), &index) {
         Ok(shown) => Ok(shown),
         Err(_) => Err(ProofFault::Memory),
     }
@@ -86,7 +89,7 @@ fn shown_goal(
     alloc: Global,
     ontology: &Ontology,
     queries: &[Query],
-    facts: &[Fact],
+    facts: &Snapshot,
     goal: &Goal,
     room: u32,
 ) -> Result<Option<Shown>, ProofFault>
@@ -116,7 +119,7 @@ fn shown_goal(
 }
 
 /// The proof of the goal by the steps and the ending.
-pub(crate) fn proof_by(facts: &Snapshot, goal: Goal, shown: Shown) -> Result<Proof, Memory>
+fn proof_by(facts: &Snapshot, goal: Goal, shown: Shown) -> Result<Proof, Memory>
     ensures facts { IfOk result (λ proof. proof.facts ≡ facts.now) }
     ensures goal { IfOk result (λ proof. proof.goal ≡ goal) }
     ensures steps { IfOk result (λ proof. proof.steps ≡ shown.steps.items) }
@@ -156,7 +159,7 @@ pub fn explain(
     ensures many { result ≡ Err ProofFault.TooManyRewritings
         → ReachesMore ontology.now (asked ontology.now queries.now goal) room }
 {
-    match shown_goal(alloc, ontology, queries, facts.facts(), &goal, room) {
+    match shown_goal(alloc, ontology, queries, facts, &goal, room) {
         Ok(Some(shown)) => match proof_by(facts, goal, shown) {
             Ok(proof) => Ok(Some(proof)),
             Err(_) => Err(ProofFault::Memory),

@@ -12,6 +12,7 @@ ghost use Rattle.dl_syntax.specs.Match.{Certain};
 ghost use Rattle.dl_syntax.specs.Queries.{IsQuery};
 ghost use Rattle.query_unify.specs.Laws.{Gives};
 ghost use Rattle.perfect_ref.specs.Plain.{encoded, Reachable, HoldsOfMore};
+ghost use Rattle.proof_search.specs.Explaining.{HaveSame};
 ghost use Rattle.proof_search.specs.Matching.{IsMatchedBy};
 ghost use Rattle.proof_search.specs.Reached.{LeadsBy, AreLinked};
 ghost use Rattle.proof_search.specs.Search.{IsRewriting, IsWalk};
@@ -20,10 +21,12 @@ ghost use Rattle.proof_search.specs.Walk.{HasSteps, AreKept};
 use crate::bindings::Binding;
 use crate::closure::closure;
 use crate::fault::ProofFault;
+use crate::known::Known;
 use crate::matching::{facts_of, find_match};
 use crate::reached::Reached;
 use crate::walk::{Walk, go_back};
 use dl_syntax::{Cq, Fact, Inclusion, IndId, Kind, Memory, Ontology, encode};
+use fact_index::Index;
 use query_unify::normalise;
 use std::alloc::Global;
 
@@ -56,18 +59,18 @@ pub(crate) fn rewriting(
 fn matching_member(
     alloc: Global,
     members: &[Cq],
-    facts: &[Fact],
+    index: &Index,
     row: &[IndId],
 ) -> Result<Option<(u32, Vec<Binding>)>, Memory>
     requires { length members.now < 2 ^ 32 }
     ensures { IfOk result (λ found. MatchOption found
         ((q : CqValue) → Contains members.now q
-        → Gives q facts.now (map ind_element row.now) → ⊥)
+        → Gives q index.now (map ind_element row.now) → ⊥)
         (λ p. (q : CqValue) × (slice_get members.now p.0 ≡ Some q)
-        × IsMatchedBy q facts.now row.now p.1.items)) }
+        × IsMatchedBy q index.now row.now p.1.items)) }
 {
     for (place, cq) in members.iter().enumerate() {
-        match find_match(alloc, cq, facts, row)? {
+        match find_match(alloc, cq, &Known::Indexed(index), row)? {
             Some(bindings) => return Ok(Some((place as u32, bindings))),
             None => {}
         }
@@ -200,11 +203,13 @@ pub(crate) fn find_walk(
     cq: &Cq,
     reached: &Reached,
     facts: &[Fact],
+    index: &Index,
     row: &[IndId],
 ) -> Result<Option<Walk>, Memory>
     requires declared { IsQueryOver ontology.now cq.now }
     requires rewriting { IsRewriting ontology.now cq.now reached.now }
     requires over { IsOverOntology ontology.now facts.now }
+    requires same { HaveSame index.now facts.now }
     requires room { length facts.now < 2 ^ 31 }
     requires few { length reached.now.found.keys ≤ 2 ^ 30 }
     ensures exact { IfOk result (λ found. MatchOption found
@@ -215,7 +220,7 @@ pub(crate) fn find_walk(
 {
     let alloc = reached.alloc;
     let members = reached.found.as_slice();
-    let Some((place, bindings)) = matching_member(alloc, members, facts, row)? else {
+    let Some((place, bindings)) = matching_member(alloc, members, index, row)? else {
         return Ok(None);
     };
     let mut walk = begin(alloc, facts, &members[place as usize], bindings.as_slice())?;

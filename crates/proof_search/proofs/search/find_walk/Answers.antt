@@ -7,6 +7,7 @@ use Rattle.query_unify.specs.Laws.{Gives}
 use Rattle.query_unify.specs.Normal.{normalise}
 use Rattle.query_unify.proofs.NormalForm.{normal_gives_same}
 use Rattle.proof_search.specs.Walk.{HasSteps}
+use Rattle.proof_search.proofs.Alike.{gives_more, matched_more}
 use Rattle.proof_search.proofs.Linked.{given_at}
 use Rattle.proof_search.proofs.Members.{not_certain, member_matched, fact_kept}
 use Rattle.proof_search.proofs.search.find_walk.Goals as goal
@@ -15,7 +16,9 @@ pub returns-in_default-clause-exact : goal.returns-in_default-clause-exact
 returns-in_default-clause-exact c =
     let none = rw (c.in_default.is, c.as_slice-members.ensures.keys) at c.in_ok-place.ensures in
     not_certain c.args.ontology.now c.args.cq.now c.args.facts.now c.args.row.now
-    c.args.reached.now.found.keys c.requires.over c.requires.declared c.requires.rewriting.all none
+    c.args.reached.now.found.keys c.requires.over c.requires.declared c.requires.rewriting.all
+    (λ q there given. none q there (gives_more q c.args.facts.now c.args.index.now c.args.row.now
+    (λ f inside. (c.requires.same f).1 inside) given))
 
 pub bounds-members-place : goal.bounds-members-place
 bounds-members-place c =
@@ -27,7 +30,9 @@ go_all-requires-clause-within c =
     let found = rw c.in-Some.is at c.in_ok-place.ensures in
     let matched = member_matched c.as_slice-members.result.now c.args.reached.now.found.keys
     c.in-Some.place found.0 c.index-members-place.result c.args.facts.now c.args.row.now
-    c.in-Some.bindings.items c.as_slice-members.ensures.keys found.1 found.2
+    c.in-Some.bindings.items c.as_slice-members.ensures.keys found.1
+    (matched_more found.0 c.args.index.now c.args.facts.now c.args.row.now
+    c.in-Some.bindings.items (λ f inside. (c.requires.same f).0 inside) found.2)
     c.index-members-place.is in
     slice_get_within c.args.reached.now.found.keys c.in-Some.place c.index-members-place.result
     matched.0
@@ -37,7 +42,9 @@ go_all-requires-clause-gives c =
     let found = rw c.in-Some.is at c.in_ok-place.ensures in
     let matched = member_matched c.as_slice-members.result.now c.args.reached.now.found.keys
     c.in-Some.place found.0 c.index-members-place.result c.args.facts.now c.args.row.now
-    c.in-Some.bindings.items c.as_slice-members.ensures.keys found.1 found.2
+    c.in-Some.bindings.items c.as_slice-members.ensures.keys found.1
+    (matched_more found.0 c.args.index.now c.args.facts.now c.args.row.now
+    c.in-Some.bindings.items (λ f inside. (c.requires.same f).0 inside) found.2)
     c.index-members-place.is in
     given_at c.args.reached.now.found.keys c.in-Some.place c.index-members-place.result
     (λ q. Gives q c.in_ok-walk.walk.known.items
@@ -49,7 +56,9 @@ go_all-requires-clause-kept c = λ f there.
     let found = rw c.in-Some.is at c.in_ok-place.ensures in
     let matched = member_matched c.as_slice-members.result.now c.args.reached.now.found.keys
     c.in-Some.place found.0 c.index-members-place.result c.args.facts.now c.args.row.now
-    c.in-Some.bindings.items c.as_slice-members.ensures.keys found.1 found.2
+    c.in-Some.bindings.items c.as_slice-members.ensures.keys found.1
+    (matched_more found.0 c.args.index.now c.args.facts.now c.args.row.now
+    c.in-Some.bindings.items (λ f inside. (c.requires.same f).0 inside) found.2)
     c.index-members-place.is in
     fact_kept c.args.ontology.now c.args.facts.now c.in_ok-walk.walk.run.items c.requires.over
     c.in_ok-walk.ensures.run f
@@ -71,7 +80,9 @@ returns-clause-short c =
     let found = rw c.in-Some.is at c.in_ok-place.ensures in
     let matched = member_matched c.as_slice-members.result.now c.args.reached.now.found.keys
     c.in-Some.place found.0 c.index-members-place.result c.args.facts.now c.args.row.now
-    c.in-Some.bindings.items c.as_slice-members.ensures.keys found.1 found.2
+    c.in-Some.bindings.items c.as_slice-members.ensures.keys found.1
+    (matched_more found.0 c.args.index.now c.args.facts.now c.args.row.now
+    c.in-Some.bindings.items (λ f inside. (c.requires.same f).0 inside) found.2)
     c.index-members-place.is in
     omega (
       arith,

@@ -10,10 +10,10 @@ use Rattle.proof_search.proofs.search.matching_member.Goals as goal
 pub loop-place-preserved : goal.loop-place-preserved
 loop-place-preserved c =
     let none = rw c.in-None.is at c.in_ok-bindings.ensures in
-    no_member_more c.args.members.now c.args.facts.now
+    no_member_more c.args.members.now c.args.index.now
     (map (λ (i : IndId). ind_element i) c.args.row.now) c.loop-place.place
     c.index-members-place.result c.loop-place-test.true c.loop-place.invariant
-    (λ given. none (subst (λ (y : Cq). Gives y c.args.facts.now
+    (λ given. none (subst (λ (y : Cq). Gives y c.args.index.now
     (map (λ (i : IndId). ind_element i) c.args.row.now)) (sym c.index-members-place.is) given))
 
 pub returns : goal.returns

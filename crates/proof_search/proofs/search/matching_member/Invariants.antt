@@ -7,4 +7,4 @@ use Rattle.proof_search.proofs.search.matching_member.Given as goal
 
 abbrev pub invariant-loop-place : goal.invariant-loop-place
 invariant-loop-place l = (q : Cq) → Contains (take l.place l.members) q
-    → Gives q l.facts (map ind_element l.row) → ⊥
+    → Gives q l.index (map ind_element l.row) → ⊥

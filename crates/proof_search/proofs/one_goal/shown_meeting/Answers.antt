@@ -1,0 +1,7 @@
+use Rattle.std.proofs.Common.{sym, subst}
+use Rattle.proof_search.specs.Explaining.{HaveSame}
+use Rattle.proof_search.proofs.one_goal.shown_meeting.Goals as goal
+
+pub meeting-requires-clause-same : goal.meeting-requires-clause-same
+meeting-requires-clause-same c = subst (HaveSame c.in_ok-index.index) (sym c.facts.ensures.same)
+    c.in_ok-index.ensures.members
