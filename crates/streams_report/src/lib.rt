@@ -3,3 +3,12 @@
 #![tactic(auto)]
 
 pub mod laws;
+mod one_line;
+mod opening;
+mod streamer;
+mod streaming;
+#[cfg(test)]
+mod tests;
+
+pub use streamer::stream_mixed;
+pub use streaming::streams_files;
