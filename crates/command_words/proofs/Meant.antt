@@ -15,7 +15,7 @@ use Rattle.command_words.specs.declared.request.WordsFault.{WordsFault}
 use Rattle.command_words.specs.declared.request.WordsFault.TheVariants.{Usage, Memory}
 use Rattle.command_words.specs.declared.request.FilesCommand.{FilesCommand}
 use Rattle.command_words.specs.declared.request.FilesCommand.TheVariants.{Rewrite, Contain, Audit}
-use Rattle.command_words.specs.declared.request.FilesCommand.TheVariants.{Explain, Verify}
+use Rattle.command_words.specs.declared.request.FilesCommand.TheVariants.{Explain, Verify, Streams}
 use Rattle.command_words.specs.Commands.{command_named, command_of, files_word, has_barred_word}
 use Rattle.command_words.specs.Commands.{is_barred_word}
 use Rattle.command_words.specs.Meanings.{Answers, Meaning, file_in, is_file, meaning_in}
@@ -64,6 +64,7 @@ files_word_is_free Contain = (refl, refl)
 files_word_is_free Audit = (refl, refl)
 files_word_is_free Explain = (refl, refl)
 files_word_is_free Verify = (refl, refl)
+files_word_is_free Streams = (refl, refl)
 
 on_files_is_named : (f : FilesCommand) (a b : Text) (is_owl : Bool) → is_file a ≡ true
     → is_file b ≡ true

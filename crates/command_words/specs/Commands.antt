@@ -12,7 +12,7 @@ use Rattle.command_words.specs.declared.names.CommandName.{CommandName}
 use Rattle.command_words.specs.declared.names.CommandName.TheVariants.{Watch, OnFiles, Drill}
 use Rattle.command_words.specs.declared.request.FilesCommand.{FilesCommand}
 use Rattle.command_words.specs.declared.request.FilesCommand.TheVariants.{Rewrite, Contain, Audit}
-use Rattle.command_words.specs.declared.request.FilesCommand.TheVariants.{Explain, Verify}
+use Rattle.command_words.specs.declared.request.FilesCommand.TheVariants.{Explain, Verify, Streams}
 
 -- the words as texts
 abbrev pub texts_of : List (String Global) → List Text
@@ -27,6 +27,7 @@ files_word Contain = codes "contain"
 files_word Audit = codes "audit"
 files_word Explain = codes "explain"
 files_word Verify = codes "verify"
+files_word Streams = codes "streams"
 
 -- the command on files that the word names
 abbrev pub files_named : Text → Option FilesCommand
@@ -34,7 +35,8 @@ files_named word = if bytes_eq word (files_word Rewrite) then Some Rewrite
     else (if bytes_eq word (files_word Contain) then Some Contain
     else (if bytes_eq word (files_word Audit) then Some Audit
     else (if bytes_eq word (files_word Explain) then Some Explain
-    else (if bytes_eq word (files_word Verify) then Some Verify else None))))
+    else (if bytes_eq word (files_word Verify) then Some Verify
+    else (if bytes_eq word (files_word Streams) then Some Streams else None)))))
 
 -- the command of this name
 abbrev pub command_named : Text → Option CommandName

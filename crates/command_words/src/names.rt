@@ -25,6 +25,7 @@ pub fn files_word(command: FilesCommand) -> &'static str
         FilesCommand::Audit => "audit",
         FilesCommand::Explain => "explain",
         FilesCommand::Verify => "verify",
+        FilesCommand::Streams => "streams",
     }
 }
 
@@ -38,6 +39,7 @@ fn files_named(word: &str) -> Option<FilesCommand>
         "audit" => Some(FilesCommand::Audit),
         "explain" => Some(FilesCommand::Explain),
         "verify" => Some(FilesCommand::Verify),
+        "streams" => Some(FilesCommand::Streams),
         _ => None,
     }
 }

@@ -37,6 +37,8 @@ pub enum FilesCommand {
     Explain,
     /// Checks proofs of answers and of contradictions.
     Verify,
+    /// Watches interleaved streams, each as if it were alone.
+    Streams,
 }
 
 /// A command on files, with the names of its two files and its option.

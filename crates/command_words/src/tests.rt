@@ -65,6 +65,7 @@ fn accepts_rewritings_and_drills(rt: HostRuntime) -> Result<(), Fail> {
         ("audit O Q", on_files(FilesCommand::Audit, false)),
         ("explain O Q", on_files(FilesCommand::Explain, false)),
         ("verify O Q", on_files(FilesCommand::Verify, false)),
+        ("streams O Q", on_files(FilesCommand::Streams, false)),
         ("drill 0 0", Request::Drill { seed: 0, count: 0 }),
         ("drill 7 3", Request::Drill { seed: 7, count: 3 }),
         (
@@ -96,6 +97,7 @@ fn accepts_documents(rt: HostRuntime) -> Result<(), Fail> {
         ("watch --owl O Q --sizes", watch),
         ("rewrite O Q --owl", on_files(FilesCommand::Rewrite, true)),
         ("contain --owl O Q", on_files(FilesCommand::Contain, true)),
+        ("streams O Q --owl", on_files(FilesCommand::Streams, true)),
         ("verify O Q --owl", on_files(FilesCommand::Verify, true)),
         ("explain O Q --owl", on_files(FilesCommand::Explain, true)),
     ] {
@@ -147,6 +149,7 @@ fn refuses_other_words(rt: HostRuntime) -> Result<(), Fail> {
         "contain O",
         "contain O Q --sizes",
         "audit O",
+        "streams O",
         "verify O",
         "explain O",
         "drill 1",
