@@ -5,7 +5,7 @@ use Rattle.edge_io.specs.Causes.{Rose}
 use Rattle.edge_io.specs.Known.{Takes}
 use Rattle.command_words.specs.declared.request.FilesCommand.{FilesCommand}
 use Rattle.command_words.specs.declared.request.FilesCommand.TheVariants.{Rewrite, Contain, Audit}
-use Rattle.command_words.specs.declared.request.FilesCommand.TheVariants.{Explain, Verify}
+use Rattle.command_words.specs.declared.request.FilesCommand.TheVariants.{Explain, Verify, Streams}
 use Rattle.command_words.specs.Meanings.{Meaning, watch, drill, meaning_of_words}
 use Rattle.stream_report.specs.declared.ending.Ending.{Ending}
 use Rattle.stream_report.specs.declared.ending.Ending.TheVariants.{Done, Usage, Refused, ReadFault}
@@ -16,6 +16,7 @@ use Rattle.stream_report.specs.Told.{Manner}
 use Rattle.job_sources.specs.declared.refusal.Refusal.{Refusal}
 use Rattle.monitor_run.specs.Ends.{status_of}
 use Rattle.containment_text.specs.Containments.{refuses_no_leaf}
+use Rattle.streams_report.specs.Opening.{refuses_large}
 use Rattle.job_sources.specs.Sources.{nothing_more}
 use Rattle.job_sources.specs.FileNames.{FileNames}
 use Rattle.monitor_core.specs.Setting.{Setting}
@@ -159,6 +160,8 @@ command_done Explain names before now files input =
     reading_done nothing_more names _ _ before now files input
 command_done Verify names before now files input =
     reading_done nothing_more names _ _ before now files input
+command_done Streams names before now files input =
+    reading_done refuses_large names _ _ before now files input
 
 pub command_completeness : CommandCompleteness
 command_completeness status words before now eb en ran good =

@@ -3,7 +3,7 @@ use Rattle.std.proofs.Common.{◌≡◌, ℕ, inl, inr, List, sym, ◌∙◌, ap
 use Rattle.std.specs.Prelude.{◌⊎◌}
 use Rattle.command_words.specs.declared.request.FilesCommand.{FilesCommand}
 use Rattle.command_words.specs.declared.request.FilesCommand.TheVariants.{Rewrite, Contain, Audit}
-use Rattle.command_words.specs.declared.request.FilesCommand.TheVariants.{Explain, Verify}
+use Rattle.command_words.specs.declared.request.FilesCommand.TheVariants.{Explain, Verify, Streams}
 use Rattle.command_words.specs.Meanings.{Meaning, drill, meaning_of_words}
 use Rattle.command_words.specs.Meanings as meaning
 use Rattle.stream_report.specs.declared.ending.Ending.{Ending}
@@ -101,6 +101,8 @@ refused_command Audit names refusal before now =
 refused_command Explain names refusal before now =
     refused_reading _ names _ _ before now refusal
 refused_command Verify names refusal before now =
+    refused_reading _ names _ _ before now refusal
+refused_command Streams names refusal before now =
     refused_reading _ names _ _ before now refusal
 
 refused_leaves : (means : Meaning) (refusal : Refusal) (before now : Outside)

@@ -6,7 +6,7 @@ use Rattle.edge_io.specs.Known.{IsFront}
 use Rattle.edge_io.proofs.KnownLemmas.{IsFront-refl}
 use Rattle.command_words.specs.declared.request.FilesCommand.{FilesCommand}
 use Rattle.command_words.specs.declared.request.FilesCommand.TheVariants.{Rewrite, Contain, Audit}
-use Rattle.command_words.specs.declared.request.FilesCommand.TheVariants.{Explain, Verify}
+use Rattle.command_words.specs.declared.request.FilesCommand.TheVariants.{Explain, Verify, Streams}
 use Rattle.command_words.specs.Meanings.{Meaning, meaning_of_words}
 use Rattle.command_words.specs.Meanings as meaning
 use Rattle.stream_report.specs.declared.ending.Ending.{Ending}
@@ -33,6 +33,8 @@ never_usage_on Audit names before now =
 never_usage_on Explain names before now =
     reading_means _ names _ _ before now
 never_usage_on Verify names before now =
+    reading_means _ names _ _ before now
+never_usage_on Streams names before now =
     reading_means _ names _ _ before now
 
 pub never_usage : (means : Meaning) (before now : Outside)

@@ -6,6 +6,7 @@ use Rattle.edge_io.specs.Held.{Store}
 use Rattle.edge_io.specs.Lines.{whole_items}
 use Rattle.command_words.specs.declared.request.FilesCommand.{FilesCommand}
 use Rattle.command_words.specs.declared.request.FilesCommand.TheVariants.{Rewrite, Contain}
+use Rattle.command_words.specs.declared.request.FilesCommand.TheVariants.{Streams}
 use Rattle.command_words.specs.Meanings.{Watching, watch, drill, meaning_of_words}
 use Rattle.monitor_core.specs.Setting.{Setting}
 use Rattle.stream_report.specs.Told.{Part}
@@ -15,6 +16,7 @@ use Rattle.monitor_run.specs.declared.status.Status.TheVariants.{Done, Usage, Ba
 use Rattle.monitor_run.specs.declared.status.Status.TheVariants.{BadQueries, Memory, StreamLimit}
 use Rattle.job_sources.specs.declared.refusal.Refusal.{Refusal}
 use Rattle.containment_text.specs.Containments.{refuses_no_leaf}
+use Rattle.streams_report.specs.Opening.{refuses_large}
 use Rattle.job_sources.specs.FileNames.{FileNames}
 use Rattle.watch_report.specs.Report.{start, watching}
 use Rattle.monitor_run.specs.Jobs.{command_on, options_of}
@@ -59,6 +61,7 @@ pub record IsGood (words : List (List ℕ)) (before now : Outside) : Type 0 wher
 -- what a command on files refuses by itself of what they say
 abbrev pub refusals_of : FilesCommand → Setting → Refusal → Type 0
 refusals_of Contain = refuses_no_leaf
+refusals_of Streams = refuses_large
 refusals_of _ = nothing_more
 
 -- the input is such a one, but for the commands that read none

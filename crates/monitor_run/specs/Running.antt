@@ -3,7 +3,7 @@ use Rattle.std.specs.Prelude.{◌≡◌, ◌⊎◌, List, ℕ, None, Some}
 use Rattle.edge_io.specs.Causes.{Rose}
 use Rattle.edge_io.specs.Known.{Gains, IsFront}
 use Rattle.command_words.specs.declared.request.FilesCommand.TheVariants.{Rewrite, Contain, Audit}
-use Rattle.command_words.specs.declared.request.FilesCommand.TheVariants.{Explain, Verify}
+use Rattle.command_words.specs.declared.request.FilesCommand.TheVariants.{Explain, Verify, Streams}
 use Rattle.command_words.specs.Meanings.{Meaning, meaning_of_words}
 use Rattle.stream_report.specs.declared.ending.Ending.{Ending}
 use Rattle.stream_report.specs.declared.ending.Ending.TheVariants.{Usage, Memory}
@@ -16,6 +16,7 @@ use Rattle.watch_report.specs.Ends.{WatchEnds, DrillEnds}
 use Rattle.audit_report.specs.Ends.{AuditEnds}
 use Rattle.explain_report.specs.Ends.{ExplainEnds}
 use Rattle.verify_report.specs.Ends.{VerifyEnds}
+use Rattle.streams_report.specs.Ends.{StreamsEnds}
 use Rattle.monitor_run.specs.declared.status.Status.{Status}
 use Rattle.monitor_run.specs.declared.jobs.Job.{Job}
 use Rattle.monitor_run.specs.declared.jobs.Job.TheVariants.{Watch, OnFiles}
@@ -30,6 +31,7 @@ JobEnds (OnFiles Contain) names ending before now = ContainEnds names ending bef
 JobEnds (OnFiles Audit) names ending before now = AuditEnds names ending before now
 JobEnds (OnFiles Explain) names ending before now = ExplainEnds names ending before now
 JobEnds (OnFiles Verify) names ending before now = VerifyEnds names ending before now
+JobEnds (OnFiles Streams) names ending before now = StreamsEnds names ending before now
 
 -- how what is asked for ended. A drill touches no file
 abbrev pub AskedEnds : Asked → Ending Refusal → Outside → Outside → Type 0

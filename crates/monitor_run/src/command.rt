@@ -21,6 +21,7 @@ use job_sources::{Names, Refusal};
 use rewriting_text::rewrite_files;
 use std::alloc::Global;
 use stream_report::Ending;
+use streams_report::streams_files;
 use verify_report::verify_files;
 use watch_report::{drill, watch_files};
 
@@ -43,6 +44,7 @@ fn do_command<F: Files, S: Source, K: Sink>(
         FilesCommand::Audit => audit_files(alloc, names, files, input, out),
         FilesCommand::Explain => explain_files(alloc, names, files, input, out),
         FilesCommand::Verify => verify_files(alloc, names, files, input, out),
+        FilesCommand::Streams => streams_files(alloc, names, files, input, out),
     }
 }
 
@@ -168,7 +170,9 @@ fn say<E: Sink>(ending: Ending<Refusal>, err: &mut E)
 /// of each; `explain ONTOLOGY QUERIES` reads the two files, explains the lines of `input` to its end
 /// and writes to `out` a proof of each answer and of each contradiction; `verify ONTOLOGY QUERIES`
 /// reads the two files, checks the proofs of `input` to its end and writes to `out` which of them
-/// show what they say; `drill SEED COUNT` makes an ontology, queries and a stream, watches it, and writes to
+/// show what they say; `streams ONTOLOGY QUERIES` reads the two files, watches the streams whose
+/// marked lines are mixed in `input` to its end and writes to `out` the report of each behind its
+/// marks; `drill SEED COUNT` makes an ontology, queries and a stream, watches it, and writes to
 /// `out` what its last snapshot tells and the end of the report. What a status means is told on
 /// `err`.
 pub fn run<F: Files, S: Source, K: Sink, E: Sink>(

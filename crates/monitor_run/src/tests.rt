@@ -9,6 +9,7 @@ mod documents;
 mod limits;
 mod refusals;
 mod rewriting;
+mod streaming;
 
 use crate::{Status, run};
 use edge_io::{MemFiles, MemSink, MemSource};
