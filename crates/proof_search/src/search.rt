@@ -90,7 +90,8 @@ fn begin(alloc: Global, facts: &[Fact], member: &Cq, bindings: &[Binding]) -> Re
         → IsMatchedBy member.now facts.now row bindings.now
         → (f : FactValue) → Contains walk.known.items f → Contains facts.now f) }
 {
-    let run = Vec::from_slice(alloc, facts)?;
+    let mut run = Vec::with_capacity(alloc, facts.len().saturating_add(16))?;
+    run.extend_from_slice(facts)?;
     let known = facts_of(alloc, bindings, member.body.as_slice())?;
     Ok(Walk {
         run,

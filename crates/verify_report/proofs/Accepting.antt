@@ -117,8 +117,11 @@ module _ (task : Task) (proof : Proof) (before : Standing) where
     to_end number =
         let lines = step_lines ++ ending_line ∷ [] in
         let place : number + length lines ≡ number + (1 + length proof.steps) =
-        omega (arith, length-append step_lines (ending_line ∷ []),
-        length-map proof.steps (λ (step : ProofStep). text (step_text step))) in
+        omega (
+          arith,
+          length-append step_lines (ending_line ∷ []),
+          length-map proof.steps (λ (step : ProofStep). text (step_text step)),
+        ) in
         subst (λ (n : ℕ). Told (verifies task) (lines ++ text (codes "end") ∷ []) number
         (at before (given [])) (verdict_text n true) (with_verdict true before)) place
         (told_joined (verifies task) lines (text (codes "end") ∷ []) number
@@ -135,12 +138,12 @@ module _ (task : Task) (proof : Proof) (before : Standing) where
           (text (goal_text task.ontology.individuals task.queries proof.goal))
           (Goes (Begun proof.goal))) (sym starts)
           (inr (inl (
-        proof.goal,
-        goal_stays task.ontology task.queries proof.goal,
-        readable.asked,
-        refl,
-        refl,
-      ))),
+            proof.goal,
+            goal_stays task.ontology task.queries proof.goal,
+            readable.asked,
+            refl,
+            refl,
+          ))),
       (refl, refl),
     )
 

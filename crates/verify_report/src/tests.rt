@@ -7,7 +7,8 @@ use std::alloc::Global;
 use std::test::Fail;
 use stream_report::Ending;
 
-const SERVERS: &[u8] = b"concept Server\nconcept Process\nrole runs\nindividual s1\nindividual s2\nsub Server some runs\nsub some inv runs Process\ndisjoint Server Process\n";
+const SERVERS: &[u8] =
+    b"concept Server\nconcept Process\nrole runs\nindividual s1\nindividual s2\nsub Server some runs\nsub some inv runs Process\ndisjoint Server Process\n";
 
 const RUNS_PROCESS: &[u8] = b"query t (?x) = [runs(?x,?y), Process(?y)] ;";
 
@@ -43,8 +44,14 @@ fn verifies_answers(rt: HostRuntime) -> Result<(), Fail> {
     let wrong = b"proof answer t 0 s1\nsnap Server(s1)\nstep 0 1\nstep 1 2\nmatch s1 *2\nend\n";
     let yes = told(alloc, right)?;
     let no = told(alloc, wrong)?;
-    assert_eq!(rt; yes.as_slice(), b"line 6 yes\nend yes 1 no 0 refused 0\n".as_slice());
-    assert_eq!(rt; no.as_slice(), b"line 6 no\nend yes 0 no 1 refused 0\n".as_slice());
+    assert_eq!(rt;
+        yes.as_slice(),
+        b"line 6 yes\nend yes 1 no 0 refused 0\n".as_slice()
+    );
+    assert_eq!(rt;
+        no.as_slice(),
+        b"line 6 no\nend yes 0 no 1 refused 0\n".as_slice()
+    );
     Ok(())
 }
 
@@ -52,9 +59,13 @@ fn verifies_answers(rt: HostRuntime) -> Result<(), Fail> {
 #[test]
 fn verifies_contradictions(rt: HostRuntime) -> Result<(), Fail> {
     let alloc = rt.alloc();
-    let lines = b"line 1 refused contradiction 1\nproof clash 1\nsnap runs(s1,s2)Server(s2)\nstep 0 2\nat 1 2\nend\nend accepted 0 refused 1\n";
+    let lines =
+        b"line 1 refused contradiction 1\nproof clash 1\nsnap runs(s1,s2)Server(s2)\nstep 0 2\nat 1 2\nend\nend accepted 0 refused 1\n";
     let told = told(alloc, lines)?;
-    assert_eq!(rt; told.as_slice(), b"line 6 yes\nend yes 1 no 0 refused 0\n".as_slice());
+    assert_eq!(rt;
+        told.as_slice(),
+        b"line 6 yes\nend yes 1 no 0 refused 0\n".as_slice()
+    );
     Ok(())
 }
 
@@ -62,9 +73,11 @@ fn verifies_contradictions(rt: HostRuntime) -> Result<(), Fail> {
 #[test]
 fn drops_proofs(rt: HostRuntime) -> Result<(), Fail> {
     let alloc = rt.alloc();
-    let lines = b"proof answer t 1 s1\nproof clash 1\nproof clash 1\nend\nsnap\n\nproof clash 1\nsnap Server(s3)\n";
+    let lines =
+        b"proof answer t 1 s1\nproof clash 1\nproof clash 1\nend\nsnap\n\nproof clash 1\nsnap Server(s3)\n";
     let told = told(alloc, lines)?;
-    let wanted = b"line 1 refused malformed\nline 3 refused malformed\nline 5 refused malformed\nline 8 refused undeclared s3\nend yes 0 no 0 refused 4\n";
+    let wanted =
+        b"line 1 refused malformed\nline 3 refused malformed\nline 5 refused malformed\nline 8 refused undeclared s3\nend yes 0 no 0 refused 4\n";
     assert_eq!(rt; told.as_slice(), wanted.as_slice());
     Ok(())
 }

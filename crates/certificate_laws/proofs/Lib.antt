@@ -1,0 +1,10 @@
+pub mod Newlines
+pub mod SnapshotLines
+pub mod Sizes
+pub mod SnapshotLengths
+pub mod TextLines
+pub mod ProofTexts
+pub mod AllTexts
+pub mod LeafSizes
+pub mod CertificateParts
+pub mod Comes

@@ -1,0 +1,3 @@
+-- The definitions, lowest first.
+pub mod Certificates
+pub mod Laws
