@@ -4,7 +4,8 @@ use super::{ran, whole};
 use crate::Status;
 use std::test::Fail;
 
-const ONTOLOGY: &[u8] = b"concept Server\nconcept Process\nconcept Failed\nrole runs\nindividual s1\nindividual s2\nindividual p1\nsub Server some runs\nsub some inv runs Process\ndisjoint Server Process\n";
+const ONTOLOGY: &[u8] =
+    b"concept Server\nconcept Process\nconcept Failed\nrole runs\nindividual s1\nindividual s2\nindividual p1\nsub Server some runs\nsub some inv runs Process\ndisjoint Server Process\n";
 
 const QUERIES: &[u8] = b"query t (?x) = [runs(?x,?y), Process(?y)] ;\n";
 
