@@ -6,7 +6,7 @@ _tom() {
     [ "$before" = '=' ] && before=${COMP_WORDS[COMP_CWORD - 2]}
     [ "$word" = '=' ] && word= && before=${COMP_WORDS[COMP_CWORD - 1]}
     if [ "$COMP_CWORD" -eq 1 ]; then
-        words='watch rewrite contain audit explain verify drill'
+        words='watch streams rewrite contain audit explain verify drill'
     elif [ "$command" = watch ] && [ "$before" = --form ]; then
         words='text json'
     elif [ "$command" = watch ] && [ "$before" = --report ]; then
