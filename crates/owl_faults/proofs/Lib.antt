@@ -1,0 +1,12 @@
+mod Readers
+mod Groups
+mod Expressions
+mod Loops
+mod ItemFronts
+mod DocumentFronts
+mod Stops
+mod Faults
+mod Splits
+mod Fitting
+mod TooMany
+mod UpTo
