@@ -1,0 +1,17 @@
+mod AllTuples
+mod Arriving
+mod Emptying
+mod Example
+mod Fitting
+mod Interning
+mod Loops
+mod OneCheckpoint
+mod Ordering
+mod Parts
+mod Powers
+mod Rebuilding
+mod GoingOn
+mod Standing
+mod Stretching
+mod Whole
+mod Tabling

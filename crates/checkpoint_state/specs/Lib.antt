@@ -1,0 +1,4 @@
+pub mod Suspending
+pub mod Telling
+pub mod Resuming
+pub mod Laws
