@@ -8,3 +8,4 @@ pub mod AllTexts
 pub mod LeafSizes
 pub mod CertificateParts
 pub mod Comes
+pub mod ExplainedProofs

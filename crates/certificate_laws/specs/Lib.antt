@@ -1,3 +1,4 @@
 -- The definitions, lowest first.
 pub mod Certificates
 pub mod Laws
+pub mod Explained
