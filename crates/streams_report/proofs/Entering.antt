@@ -31,7 +31,7 @@ has_contains name [] is = absurd cc
 has_contains name (first ∷ names) is =
     elim (bytes_eq name first) as (λ t. bytes_eq name first ≡ t
     → (t || has_name name names) ≡ true → Contains (first ∷ names) name) [
-      true ↦ λ same there. subst (Contains (first ∷ names))
+      | true ↦ λ same there. subst (Contains (first ∷ names))
           (sym ((bytes_eq-Decides name first).0 same)) (Contains-first first names)
       | false ↦ λ other there. Contains-later first names name (has_contains name names there)
     ] refl is

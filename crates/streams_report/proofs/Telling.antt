@@ -73,9 +73,11 @@ told_marked setting entered new counts after old left mixed number line before n
           (Refuses mixed number (codes "too-many-streams " ++ line.name) one.told one.after)
           (GoesOn (watches (watch_of setting)) line.name line.rest m.streams one.told
           one.after.streams × (one.after.unowned ≡ mixed.unowned)))
-          (sym is.few)
-          (subst (λ (s : Setting). GoesOn (watches (watch_of s)) line.name line.rest m.streams
-          one.told one.after.streams) same one.goes, one.same);
+          (sym is.few) (
+            subst (λ (s : Setting). GoesOn (watches (watch_of s)) line.name line.rest m.streams
+                one.told one.after.streams) same one.goes,
+            one.same,
+          );
       stands = one.stands;
       gathers = one.gathers;
     }

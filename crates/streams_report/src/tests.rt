@@ -111,7 +111,10 @@ fn large_queries_are_refused(rt: HostRuntime) -> Result<(), Fail> {
     let most = b"query u (?x ?y ?z ?w) = [A(?x)] ;\n";
     let outcome = ran(alloc, &ontology, most, b"")?;
     assert!(rt; outcome.ending == Ending::Done);
-    assert_eq!(rt; outcome.report.as_slice(), b"end streams 0 refused 0\n".as_slice());
+    assert_eq!(rt;
+        outcome.report.as_slice(),
+        b"end streams 0 refused 0\n".as_slice()
+    );
     let more = b"query u (?x ?y ?z ?w) = [A(?x)] ;\nquery v () = true ;\n";
     let outcome = ran(alloc, &ontology, more, b"")?;
     assert!(rt; outcome.ending == Ending::Refused(Refusal::TooLarge(1_048_577)));

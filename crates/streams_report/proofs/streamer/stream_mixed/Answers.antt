@@ -19,8 +19,7 @@ returns g c =
     record {
       ends = subst (λ (t : Setting). StreamEnds (streaming t) unmixed c.report_stream.result
           (ports_of g.S.Source g.K.Sink c.args.input.now c.args.out.now)
-          (ports_of g.S.Source g.K.Sink c.report_stream.new.input c.report_stream.new.out)) same
-          (
+          (ports_of g.S.Source g.K.Sink c.report_stream.new.input c.report_stream.new.out)) same (
             c.report_stream.ensures.ends unmixed
                 (begins_mixed s.set s.counts s.unowned (watched_of c.args.monitor)
                 c.new-streamer.ensures.set c.new-streamer.ensures.counts

@@ -18,7 +18,12 @@ pub returns : goal.returns
 returns c = λ mixed is.
     let many = as_many c.args.self.now.set c.args.self.now.counts c.args.self.now.unowned mixed is in
     let all : c.loop-stream.stream ≡ length mixed.streams =
-    omega (arith, many, c.len-count.ensures.len, c.loop-stream-test.false,
-    c.loop-stream.auto.stream-end) in
+    omega (
+      arith,
+      many,
+      c.len-count.ensures.len,
+      c.loop-stream-test.false,
+      c.loop-stream.auto.stream-end,
+    ) in
     subst (λ (n : ℕ). ClosesFirst (setting_under c.args.self.now.set.watched) n mixed.streams
     c.args.gathered.now.items c.loop-stream.gathered.items) all (c.loop-stream.invariant mixed is)
