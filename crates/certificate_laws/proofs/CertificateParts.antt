@@ -231,7 +231,8 @@ module _ (o : Declared) (sound : IsOntology o) where
     answer_parts : (query leaf : ℕ) (row : List IndId) (elements : List Element)
         → (found : Option Cq) → leaf_at queries query leaf ≡ found
         → EndsAnswer found run row elements → IsWritableGoal o queries (Answer query leaf row)
-        → IsWritableEnding o (Match elements) → Parts queries (Answer query leaf row) (Match elements)
+        → IsWritableEnding o (Match elements) → Parts queries (Answer query leaf row)
+        (Match elements)
     answer_parts query leaf row elements None is none writable named = absurd none
     answer_parts query leaf row elements (Some q) is m writable named =
         let at : LeafThere queries query leaf q = leaf_there queries query leaf q is in

@@ -1,5 +1,6 @@
 -- A line is no shorter than what its tokens need.
-use Rattle.std.proofs.Common.{◌≡◌, ℕ, zero, suc, ◌+◌, ◌-◌, ◌≤◌, ◌==◌, Bool, true, false, leb, cond, List}
+use Rattle.std.proofs.Common.{◌≡◌, ℕ, zero, suc, ◌+◌, ◌-◌, ◌≤◌, ◌==◌, Bool, true, false, leb}
+use Rattle.std.proofs.Common.{cond, List}
 use Rattle.std.proofs.Common.{[], ◌∷◌, length, drop, refl, arith}
 use Rattle.std.specs.List.{prefix_len}
 use Rattle.std.proofs.lemmas.List.{length-take}
@@ -157,43 +158,52 @@ module _ (b : ℕ) (rest : List ℕ) (place : ℕ) (fits : Fits rest) (apart : F
         omega (arith, fits 0 (suc place)),
         λ other. omega (arith, fits 0 (suc place)),
       )
-  mark_first letter blank hash question false e0 false e1 true e2 a3 e3 a4 e4 a5 e5 a6 e6 a7 e7 a8 e8 =
+  mark_first letter blank hash question false e0 false e1 true e2 a3 e3 a4 e4 a5 e5 a6 e6 a7 e7 a8
+      e8 =
       rw (letter, blank, hash, question, e0, e1, e2) (
         omega (arith, fits 0 (suc place)),
         λ other. omega (arith, fits 0 (suc place)),
       )
-  mark_first letter blank hash question false e0 false e1 false e2 true e3 a4 e4 a5 e5 a6 e6 a7 e7 a8 e8 =
+  mark_first letter blank hash question false e0 false e1 false e2 true e3 a4 e4 a5 e5 a6 e6 a7 e7
+      a8 e8 =
       rw (letter, blank, hash, question, e0, e1, e2, e3) (
         omega (arith, fits 0 (suc place)),
         λ other. omega (arith, fits 0 (suc place)),
       )
-  mark_first letter blank hash question false e0 false e1 false e2 false e3 true e4 a5 e5 a6 e6 a7 e7 a8 e8 =
+  mark_first letter blank hash question false e0 false e1 false e2 false e3 true e4 a5 e5 a6 e6 a7
+      e7 a8 e8 =
       rw (letter, blank, hash, question, e0, e1, e2, e3, e4) (
         omega (arith, fits 0 (suc place)),
         λ other. omega (arith, fits 0 (suc place)),
       )
-  mark_first letter blank hash question false e0 false e1 false e2 false e3 false e4 true e5 a6 e6 a7 e7 a8 e8 =
+  mark_first letter blank hash question false e0 false e1 false e2 false e3 false e4 true e5 a6 e6
+      a7 e7 a8 e8 =
       rw (letter, blank, hash, question, e0, e1, e2, e3, e4, e5) (
         omega (arith, fits 0 (suc place)),
         λ other. omega (arith, fits 0 (suc place)),
       )
-  mark_first letter blank hash question false e0 false e1 false e2 false e3 false e4 false e5 true e6 a7 e7 a8 e8 =
+  mark_first letter blank hash question false e0 false e1 false e2 false e3 false e4 false e5 true
+      e6 a7 e7 a8 e8 =
       rw (letter, blank, hash, question, e0, e1, e2, e3, e4, e5, e6) (
         omega (arith, fits 0 (suc place)),
         λ other. omega (arith, fits 0 (suc place)),
       )
-  mark_first letter blank hash question false e0 false e1 false e2 false e3 false e4 false e5 false e6 true e7 a8 e8 =
+  mark_first letter blank hash question false e0 false e1 false e2 false e3 false e4 false e5
+      false e6 true e7 a8 e8 =
       rw (letter, blank, hash, question, e0, e1, e2, e3, e4, e5, e6, e7) (
         omega (arith, fits 0 (suc place)),
         λ other. omega (arith, fits 0 (suc place)),
       )
-  mark_first letter blank hash question false e0 false e1 false e2 false e3 false e4 false e5 false e6 false e7 true e8 =
+  mark_first letter blank hash question false e0 false e1 false e2 false e3 false e4 false e5
+      false e6 false e7 true e8 =
       rw (letter, blank, hash, question, e0, e1, e2, e3, e4, e5, e6, e7, e8) (
         omega (arith, fits 0 (suc place)),
         λ other. omega (arith, fits 0 (suc place)),
       )
-  mark_first letter blank hash question false e0 false e1 false e2 false e3 false e4 false e5 false e6 false e7 false e8 =
-      rw (letter, blank, hash, question, e0, e1, e2, e3, e4, e5, e6, e7, e8) (omega arith, λ other. omega arith)
+  mark_first letter blank hash question false e0 false e1 false e2 false e3 false e4 false e5
+      false e6 false e7 false e8 =
+      rw (letter, blank, hash, question, e0, e1, e2, e3, e4, e5, e6, e7, e8)
+      (omega arith, λ other. omega arith)
 
   by_mark : is_letter b ≡ false → is_blank b ≡ false → (b == 35) ≡ false → (b == 63) ≡ false
       → FitBoth b rest place

@@ -1,5 +1,6 @@
 -- A snapshot as it is written is no longer than a line that says it.
-use Rattle.std.proofs.Common.{◌≡◌, ℕ, ◌+◌, ◌≤◌, Bool, true, false, cond, List, [], ◌∷◌, ◌++◌, length}
+use Rattle.std.proofs.Common.{◌≡◌, ℕ, ◌+◌, ◌≤◌, Bool, true, false, cond, List, [], ◌∷◌, ◌++◌}
+use Rattle.std.proofs.Common.{length}
 use Rattle.std.proofs.Common.{refl, sym, ap, ◌∙◌, subst, arith, codes, map, length-append}
 use Rattle.std.specs.Prelude.{flat_map, Option, Some, None, fold, slice_index_or}
 use Rattle.std.specs.List.{filter_map, cons_option, list_any}
@@ -191,7 +192,8 @@ unary_back o p a (Some c) None f concept individual is = absurd (cc)
 unary_back o p a (Some c) (Some i) f concept individual is =
     let same : fact.Concept (record { 0 = c }) (Ind (record { 0 = i })) ≡ f = cc in
     subst (λ (g : Fact). written_of o g ≡ unary p a) same
-    (ap (λ (t : Text). unary t (slice_index_or o.individuals i [])) (name_back Concept o p c concept)
+    (ap (λ (t : Text). unary t (slice_index_or o.individuals i []))
+    (name_back Concept o p c concept)
     ∙ ap (unary p) (name_back Individual o a i individual))
 
 binary_back : (o : Declared) (p a b : Text) (r i j : Option ℕ) (f : Fact)

@@ -206,8 +206,12 @@ module _ (o : Declared) (sound : IsOntology o) where
   spelled : (f : Fact) → IsDeclared o f → IsSpelled (written_of o f)
   spelled (fact.Concept c x) declared =
       (concept_spelled c.0 declared.0, individual_spelled x declared.1)
-  spelled (fact.Role p x y) declared =
-      (role_spelled p.0 declared.0, individual_spelled x declared.1, individual_spelled y declared.2)
+  spelled (fact.Role p x y) declared = (
+    role_spelled p.0 declared.0,
+    individual_spelled x declared.1,
+    individual_spelled y
+        declared.2,
+  )
 
   all_spelled : (facts : List Fact) → All (IsDeclared o) facts
       → All IsSpelled (map (written_of o) facts)
@@ -337,7 +341,8 @@ pub snapshot_said : (o : Declared) → IsOntology o → (facts : List Fact) → 
     → said o form.Text (snapshot_text o facts) ≡ says facts
 unfolding said line_writes
 snapshot_said o sound facts declared pairs few =
-    ap (λ (t : Text). line_says o (symbols_write (symbols (lexed 0 0 t)))) (line_is o facts declared)
+    ap (λ (t : Text). line_says o (symbols_write (symbols (lexed 0 0 t))))
+    (line_is o facts declared)
     ∙ (ap (line_says o) (line_read (map (written_of o) facts) (all_spelled o sound facts declared))
     ∙ said_facts o sound facts declared pairs few)
 

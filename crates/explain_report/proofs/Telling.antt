@@ -29,7 +29,8 @@ ShowsFrom task facts proof =
 all_shown : (task : Task) (facts : List Fact) (goals : List Goal) (proofs : List Proof)
     → ProveAll task facts goals proofs → All (ShowsFrom task facts) proofs
 all_shown task facts goals proofs prove =
-    AllZip-all (Proves task facts) (ShowsFrom task facts) (λ g p is. (is.shows.shows, is.shows.facts_are)) goals
+    AllZip-all (Proves task facts) (ShowsFrom task facts)
+    (λ g p is. (is.shows.shows, is.shows.facts_are)) goals
     proofs prove
 
 pub answers_are_told : AnswersAreTold

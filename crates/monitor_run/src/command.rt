@@ -162,19 +162,15 @@ fn say<E: Sink>(ending: Ending<Refusal>, err: &mut E)
     let _ = write_all(err, line.as_slice());
 }
 
-/// Runs the command that the words name: `watch ONTOLOGY QUERIES` reads the two files, watches
-/// `input` to its end and writes the report to `out`; `rewrite ONTOLOGY QUERIES` reads the two
-/// files and writes the rewritings of all leaves to `out`; `contain ONTOLOGY QUERIES` reads the two
-/// files and writes to `out` which queries are contained in which others; `audit ONTOLOGY QUERIES`
-/// reads the two files, audits the models of `input` to its end and writes to `out` what is found
-/// of each; `explain ONTOLOGY QUERIES` reads the two files, explains the lines of `input` to its end
-/// and writes to `out` a proof of each answer and of each contradiction; `verify ONTOLOGY QUERIES`
-/// reads the two files, checks the proofs of `input` to its end and writes to `out` which of them
-/// show what they say; `streams ONTOLOGY QUERIES` reads the two files, watches the streams whose
-/// marked lines are mixed in `input` to its end and writes to `out` the report of each behind its
-/// marks; `drill SEED COUNT` makes an ontology, queries and a stream, watches it, and writes to
-/// `out` what its last snapshot tells and the end of the report. What a status means is told on
-/// `err`.
+/// Runs the command that the words name, over files of these names, and says on `err` what a status
+/// other than `Done` means. `watch`, `streams`, `audit`, `explain` and `verify` with ONTOLOGY and
+/// QUERIES read the two files and then `input` to its end, a line at a time, and write to `out` the
+/// report of the stream, the report of each of the mixed streams behind its mark, what is found of
+/// each model, a proof of each answer and of each contradiction, and which proofs show what they
+/// say. `rewrite` and `contain` read the two files and write to `out` the rewritings of all leaves,
+/// and which queries are contained in which others. `drill SEED COUNT` makes an ontology, queries
+/// and a stream, watches it, and writes to `out` what its last snapshot tells and the end of the
+/// report.
 pub fn run<F: Files, S: Source, K: Sink, E: Sink>(
     alloc: Global,
     words: &[String],

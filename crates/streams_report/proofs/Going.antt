@@ -67,7 +67,8 @@ module _ (step : Step Standing) (name line alone : Text) (next : Standing) (line
   goes_at (s ∷ streams) zero stream first at more tells =
       let same : s ≡ stream = cc in
       let own : name ≡ s.name = same_name name s.name first in
-      let here : FirstGoesOn step line s streams (marked name alone) (gone stream.name ∷ streams) = (
+      let here : FirstGoesOn step line s streams (marked name alone) (gone stream.name ∷ streams)
+      = (
         alone,
         next,
         subst (λ (x : Stream Standing). step x.state (x.lines + 1) (text line) alone next)

@@ -157,7 +157,8 @@ told task before after number line words verdict verifies is =
 
 pub yes_holds : YesHolds
 yes_holds task before after number line words verifies is =
-    let j : Judges task before.stage true = told task before after number line words true verifies is
+    let j : Judges task before.stage true = told task before after number line words true verifies
+    is
     in
     let shows : Shows task.ontology task.queries j.proof = j.judges.0 refl in
     record {

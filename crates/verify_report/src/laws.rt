@@ -28,8 +28,8 @@ pub fn yes_holds()
     ensures no { NoShowsNot }
 {}
 
-/// Where yes is told of a line, the lines up to it end with those of a proof whose goal holds of the
-/// facts that its snapshot says.
+/// Where yes is told of a line, the lines up to it end with those of a proof whose goal holds of
+/// the facts that its snapshot says.
 pub fn yes_is_read()
     ensures { YesIsRead }
 {}

@@ -7,6 +7,7 @@ use Rattle.certificate_laws.proofs.laws.snapshots_are_read.Goals as goal
 pub returns : goal.returns
 returns c = λ o sound line facts is. (
   snapshot_said o sound facts (said_are_declared o form.Text line facts is)
-      (said_are_distinct o form.Text line facts is).distinct (said_are_few o form.Text line facts is),
+      (said_are_distinct o form.Text line facts is).distinct
+      (said_are_few o form.Text line facts is),
   snapshot_short o line facts is,
 )

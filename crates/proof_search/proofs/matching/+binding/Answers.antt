@@ -62,7 +62,8 @@ pub bind_first-returns-then-not-branch-clause-found :
 bind_first-returns-then-not-branch-clause-found t c =
     let fits = rw c.if-not-branch.true at c.in_ok-bind_atom.ensures.bound in (
       tt,
-      match_refused (facts_in c.args.known.now) c.args.atom c.args.rest.now c.args.bindings.now.items
+      match_refused (facts_in c.args.known.now) c.args.atom c.args.rest.now
+          c.args.bindings.now.items
           c.args.fact fits.1,
     )
 

@@ -18,5 +18,6 @@ pub returns-else-branch : goal.returns-else-branch
 returns-else-branch c =
     let bound = rw (c.in-Some.is, c.as_slice.ensures) at c.in_ok-bindings.ensures in
     let found = rw (c.if-branch.false, c.as_slice-2.ensures) at c.in_ok-bind_body.ensures.found in
-    not_matched c.args.cq.now (facts_in c.args.known.now) c.args.row.now c.in-Some.bindings.items bound
+    not_matched c.args.cq.now (facts_in c.args.known.now) c.args.row.now c.in-Some.bindings.items
+    bound
     found.1

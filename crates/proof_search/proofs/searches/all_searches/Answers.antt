@@ -20,10 +20,12 @@ loop-query-preserved c =
           (subst (λ (q : Tcq). IsTcq q.vars q.nodes) c.query-item.is
           c.in_ok-searches.ensures.table)
           (All-nil (λ (q : Tcq). IsTcq q.vars q.nodes))));
-      searches = AllZip-next (AreSearchesOf c.args.ontology.now c.args.room) queries c.loop-query.all.items
+      searches = AllZip-next (AreSearchesOf c.args.ontology.now c.args.room) queries
+          c.loop-query.all.items
           c.push.new.self.items k c.query-item.result c.in_ok-searches.searches
           c.loop-query-test.true c.loop-query.invariant.searches
-          (subst (λ (q : Tcq). AreSearchesOf c.args.ontology.now c.args.room q c.in_ok-searches.searches)
+          (subst (λ (q : Tcq). AreSearchesOf c.args.ontology.now c.args.room q
+          c.in_ok-searches.searches)
           c.query-item.is c.in_ok-searches.ensures.searches)
           c.in_ok-push.ensures.items;
     }

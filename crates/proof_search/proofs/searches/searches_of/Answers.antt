@@ -46,6 +46,7 @@ loop-node-preserved c =
     AllZip-next (IsSearchOf c.args.ontology.now c.args.room) c.nodes-nodes.result.now
     c.loop-node.searches.items c.push.new.self.items c.loop-node.node-index c.node-item.result
     c.in_ok-search.search c.loop-node-test.true c.loop-node.invariant
-    (subst (λ (n : Node). IsSearchOf c.args.ontology.now c.args.room n c.in_ok-search.search) c.node-item.is
+    (subst (λ (n : Node). IsSearchOf c.args.ontology.now c.args.room n c.in_ok-search.search)
+    c.node-item.is
     c.in_ok-search.ensures.search)
     c.in_ok-push.ensures.items

@@ -17,7 +17,8 @@ overflow_add-total c =
     let one : f q ≡ f (slice_index_or queries i q) = ap f c.query-item.is in
     let most = sum_by_more_le f queries i q c.loop-query-test.true in
     let few : sum_by f queries ≤ 67108864 =
-    subst (λ (n : ℕ). sum_by (units_of n) queries ≤ 67108864) (sym c.count-individuals.ensures.count)
+    subst (λ (n : ℕ). sum_by (units_of n) queries ≤ 67108864)
+    (sym c.count-individuals.ensures.count)
     c.requires.small in
     omega (arith, is, one, most, few, c.loop-query.invariant)
 

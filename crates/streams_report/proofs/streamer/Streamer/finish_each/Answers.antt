@@ -16,7 +16,8 @@ loop-stream-preserved c = λ mixed is.
 
 pub returns : goal.returns
 returns c = λ mixed is.
-    let many = as_many c.args.self.now.set c.args.self.now.counts c.args.self.now.unowned mixed is in
+    let many = as_many c.args.self.now.set c.args.self.now.counts c.args.self.now.unowned mixed is
+    in
     let all : c.loop-stream.stream ≡ length mixed.streams =
     omega (
       arith,
