@@ -8,8 +8,6 @@ mod outcome;
 mod proof_lines;
 mod reporter;
 mod snapshot_lines;
-#[cfg(test)]
-mod tests;
 
 pub use explaining::explain_files;
 pub use reporter::explain_stream;
