@@ -3,7 +3,6 @@ use Rattle.std.proofs.Common.{◌≡◌, ◌+◌, ◌-◌, ℕ, List, [], ◌++�
 use Rattle.std.proofs.Common.{take, refl, sym, ◌∙◌, ap, ap₂, subst, append-nil}
 use Rattle.std.specs.Prelude.{Option, Some, slice_get, slice_set}
 use Rattle.std.proofs.lemmas.List.{take-append-drop}
-use Rattle.tcq_syntax.specs.Histories.{History}
 use Rattle.edge_io.specs.Lines.{text}
 use Rattle.stream_report.specs.Told.{TellsLine}
 use Rattle.monitor_core.specs.declared.state.State.{State}
@@ -15,10 +14,10 @@ use Rattle.many_streams.specs.Streams.{Streams, came_under, with_state}
 use Rattle.many_streams.proofs.TakingTurns.{set_twice}
 use Rattle.marked_lines.specs.Texts.{Text}
 use Rattle.watch_report.specs.Drill.{plain}
-use Rattle.watch_report.specs.Replies.{Replied}
+use Rattle.watch_report.specs.Replies.{Gathers}
 use Rattle.watch_report.specs.Report.{Standing, watches, watching}
 use Rattle.watch_report.specs.Task.{Task, own_setting, task_of}
-use Rattle.watch_report.proofs.ReplyLaws.{watched_line}
+use Rattle.watch_report.proofs.StoodFor.{gathered_after}
 use Rattle.streams_report.specs.Report.{watch_of}
 use Rattle.streams_report.specs.Streaming.{TellsOne}
 
@@ -73,17 +72,16 @@ module _ (old : Streams) (m0 m1 m2 m3 : Monitored) (names : List Text) (s0 s1 s3
       (own_unnamed m1 none ∙ ap setting_under w1)
 
   at_inside : (number refused : ℕ) (line before now : Text) (standing : Standing)
-      → ((history : History) → Stands m1 history
-      → Replied plain m1 m2 (text line) number history before now refused)
+      → Gathers plain m1 m2 (text line) number before now refused
       → StandsUnder (watched_of m0) m1.state standing.history
       → TellsOne inside new place number line before now refused standing
-  at_inside number refused line before now standing replies stands =
+  at_inside number refused line before now standing gathers stands =
       let here : Stands m1 standing.history = subst (λ (w : Watched).
       StandsUnder w m1.state standing.history) (sym w1) stands in
       let told : TellsLine (watching (task_of plain m1)) standing (λ (after : Standing).
-      Stands m2 after.history × (standing.refused + refused ≡ after.refused)) number (text line)
-      before now = watched_line plain m1 m2 (text line) number standing.refused refused before now
-      standing here refl replies in
+      Stands m2 after.history × (after.refused ≡ standing.refused + refused)) number (text line)
+      before now = gathered_after plain m1 m2 (text line) number refused before now standing here
+      gathers in
       record {
         next = told.after;
         alone = told.told;
@@ -93,17 +91,16 @@ module _ (old : Streams) (m0 m1 m2 m3 : Monitored) (names : List Text) (s0 s1 s3
         is = new_is;
         stands = subst (λ (w : Watched). StandsUnder w m2.state told.after.history) (w2 ∙ w1)
             told.stands.0;
-        counted = sym told.stands.1;
+        counted = told.stands.1;
         gathers = told.gathers;
       }
 
   pub tells_turn : (number refused : ℕ) (line before now : Text)
-      → ((history : History) → Stands m1 history
-      → Replied plain m1 m2 (text line) number history before now refused)
+      → Gathers plain m1 m2 (text line) number before now refused
       → (state : State) (standing : Standing) → slice_get old.states place ≡ Some state
       → StandsUnder old.watched state standing.history
       → TellsOne old new place number line before now refused standing
-  tells_turn number refused line before now replies state standing at stands =
+  tells_turn number refused line before now gathers state standing at stands =
       let there : slice_get old.states place ≡ Some m1.state =
       ap (λ (s : Streams). slice_get s.states place) (sym is) ∙ g1 in
       let same : state ≡ m1.state =
@@ -113,4 +110,4 @@ module _ (old : Streams) (m0 m1 m2 m3 : Monitored) (names : List Text) (s0 s1 s3
       let second : StandsUnder (watched_of m0) m1.state standing.history = subst (λ (s : Streams).
       StandsUnder s.watched m1.state standing.history) (sym is) first in
       subst (λ (s : Streams). TellsOne s new place number line before now refused standing) is
-      (at_inside number refused line before now standing replies second)
+      (at_inside number refused line before now standing gathers second)

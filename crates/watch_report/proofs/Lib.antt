@@ -5,8 +5,12 @@ mod Sayings
 mod Sizes
 mod Spelled
 mod MadeStream
-pub mod ReplyLaws
-mod Arrivals
+mod ReplyLaws
+mod MonitorReplies
+pub mod StoodFor
+mod RehearsedLines
+mod Renumbering
+mod LastMonitors
 mod ClosedLines
 mod HistoryLaws
 mod Rehearsals

@@ -2,6 +2,7 @@ pub mod Task
 pub mod Outcome
 pub mod Told
 pub mod Report
+pub mod Monitoring
 pub mod Replies
 pub mod Props
 pub mod Drill

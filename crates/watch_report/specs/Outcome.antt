@@ -1,8 +1,8 @@
 -- What a line of a stream comes to, after a history.
-use Rattle.std.specs.Prelude.{◌≡◌, ℕ, Option, None, Some, List}
+use Rattle.std.specs.Prelude.{◌≡◌, ℕ, Bool, Option, None, Some, List}
 use Rattle.dl_syntax.specs.declared.facts.Fact.{Fact}
 use Rattle.dl_syntax.specs.Ontology.{Declared}
-use Rattle.tcq_syntax.specs.Arrivals.{NameFault, fault_after}
+use Rattle.tcq_syntax.specs.Arrivals.{NameFault, fault_of_name}
 use Rattle.tcq_syntax.specs.Arrivals.{Closed as IsClosed, NameTwice as IsTwice}
 use Rattle.tcq_syntax.specs.Arrivals.{TooMany as AreTooMany, TooLarge as IsTooLarge}
 use Rattle.tcq_syntax.specs.Histories.{History}
@@ -56,17 +56,35 @@ abbrev pub name_comes_to : List ℕ → Option NameFault → Outcome
 name_comes_to name None = declares name
 name_comes_to name (Some fault) = refused (cause_of_name name fault)
 
+-- what is said comes to this by the names of the setting, to which none may be added once it is
+-- closed
+abbrev pub SaidComesTo : Setting → Bool → Said → Outcome → Type 0
+SaidComesTo setting closed nothing outcome = outcome ≡ skip
+SaidComesTo setting closed (is_refused cause) outcome = outcome ≡ refused (cause_of cause)
+SaidComesTo setting closed (names name) outcome =
+    outcome ≡ name_comes_to name (fault_of_name setting.ontology setting.queries closed name)
+SaidComesTo setting closed (says snapshot) outcome = SnapshotHas setting.ontology snapshot outcome
+
+-- so does the line, in this form
+abbrev pub ComesTo : Setting → Bool → StreamForm → StreamLine → Outcome → Type 0
+ComesTo setting closed form too_long outcome = outcome ≡ refused TooLong
+ComesTo setting closed form (text line) outcome =
+    SaidComesTo setting closed (said setting.ontology form line) outcome
+
+-- what is known after the history
+abbrev pub setting_after : Setting → History → Setting
+setting_after setting history = record {
+  ontology = ontology_after setting history;
+  queries = setting.queries;
+}
+
+-- what is said comes to this after the history
 abbrev pub SaidHas : Setting → History → Said → Outcome → Type 0
-SaidHas setting history nothing outcome = outcome ≡ skip
-SaidHas setting history (is_refused cause) outcome = outcome ≡ refused (cause_of cause)
-SaidHas setting history (names name) outcome =
-    outcome ≡ name_comes_to name (fault_after setting.ontology setting.queries history name)
-SaidHas setting history (says snapshot) outcome =
-    SnapshotHas (ontology_after setting history) snapshot outcome
+SaidHas setting history what outcome =
+    SaidComesTo (setting_after setting history) history.is_closed what outcome
 
 -- the line, in this form, has this outcome after the history: it is read by the names of the
 -- ontology and of the history
 abbrev pub HasOutcome : Setting → History → StreamForm → StreamLine → Outcome → Type 0
-HasOutcome setting history form too_long outcome = outcome ≡ refused TooLong
-HasOutcome setting history form (text line) outcome =
-    SaidHas setting history (said (ontology_after setting history) form line) outcome
+HasOutcome setting history form line outcome =
+    ComesTo (setting_after setting history) history.is_closed form line outcome

@@ -1,6 +1,5 @@
 -- What the monitor replies to a line.
 use Rattle.std.specs.Prelude.{◌≡◌, ℕ, Option, None, Some, List, [], ◌∷◌, ◌++◌}
-use Rattle.tcq_syntax.specs.Histories.{History}
 use Rattle.edge_io.specs.Lines.{Item as StreamLine}
 use Rattle.report_text.specs.declared.item.Cause.{Cause}
 use Rattle.report_text.specs.declared.item.Cause.TheVariants as cause
@@ -14,12 +13,10 @@ use Rattle.monitor_core.specs.declared.accept_fault.AcceptFault.{AcceptFault}
 use Rattle.monitor_core.specs.declared.accept_fault.AcceptFault.TheVariants as fault
 use Rattle.monitor_core.specs.Keeping.{Monitored}
 use Rattle.monitor_core.specs.Setting.{Setting}
-use Rattle.monitor_core.specs.Standing.{Stands}
 use Rattle.watch_report.specs.declared.options.Options.{Options}
 use Rattle.watch_report.specs.Outcome.{cause_of}
-use Rattle.watch_report.specs.Report.{bytes_of, refused_in}
-use Rattle.watch_report.specs.Task.{task_of}
-use Rattle.watch_report.specs.Told.{TellsLine}
+use Rattle.watch_report.specs.Monitoring.{MonitorTells, events_bytes, line_comes_to}
+use Rattle.watch_report.specs.Report.{refused_in}
 
 -- what is told, if there is an event
 abbrev pub told_by : Option Event → List Event
@@ -57,18 +54,12 @@ IsRefusal number (fault.Contradiction clash) told =
     told ≡ event.Refused number (cause.Contradiction clash)
 IsRefusal number fault.Memory told = ⊥
 
--- a monitor that stood for the history replied to the line with this number by this event, or by
--- none
-pub record AcceptsLine (options : Options) (old new : Monitored) (line : StreamLine) (number : ℕ)
-    (told : Option Event) (history : History) : Type 0 where
-  pub after : History
-  pub stands : Stands new after
-  pub tells : TellsLine (task_of options old) history number line (told_by told) after
-
--- and what is told was gathered behind the buffer's bytes, of so many refusals
-pub record Replied (options : Options) (old new : Monitored) (line : StreamLine) (number : ℕ)
-    (history : History) (before now : List ℕ) (refused : ℕ) : Type 0 where
+-- a monitor told this of a line, and the bytes of it were gathered behind the buffer's, of so many
+-- refusals
+pub record Gathers (options : Options) (old new : Monitored) (line : StreamLine) (number : ℕ)
+    (before now : List ℕ) (refused : ℕ) : Type 0 where
   pub told : Option Event
-  pub accepts : AcceptsLine options old new line number told history
-  pub gathers : now ≡ before ++ bytes_of (task_of options old) accepts.after (told_by told)
+  pub tells : MonitorTells options old number (line_comes_to old options.form line) (told_by told)
+      new
+  pub gathers : now ≡ before ++ events_bytes options new (told_by told)
   pub refuses : refused ≡ refused_in (told_by told)

@@ -8,6 +8,7 @@ use Rattle.report_text.specs.declared.event.Event.TheVariants.{Refused, End}
 use Rattle.report_text.specs.Events.{event_text, report_heading_text}
 use Rattle.monitor_core.specs.Standing.{count_of}
 use Rattle.stream_report.specs.Told.{Step, Manner}
+use Rattle.watch_report.specs.declared.options.Options.{Options}
 use Rattle.watch_report.specs.Task.{Task, ontology_after}
 use Rattle.watch_report.specs.Told.{TellsLine}
 
@@ -20,8 +21,11 @@ abbrev pub bytes_of : Task → History → List Event → List ℕ
 bytes_of task history told = flat_map (bytes_of_event task history) told
 
 -- what stands before the first event
-unfoldable pub heading : Task → List ℕ
-heading task = report_heading_text task.options.report
+unfoldable pub heading_of : Options → List ℕ
+heading_of options = report_heading_text options.report
+
+abbrev pub heading : Task → List ℕ
+heading task = heading_of task.options
 
 abbrev pub is_refusal : Event → Bool
 is_refusal (Refused line cause) = true
@@ -36,9 +40,13 @@ pub record Standing : Type 0 where
   pub history : History
   pub refused : ℕ
 
--- before the first line nothing came, and names may come
+-- before the first line of a stream that goes on after the history
+abbrev pub standing_at : History → Standing
+standing_at history = record { history = history; refused = 0 }
+
+-- before the first line of all nothing came, and names may come
 abbrev pub start : Standing
-start = record { history = empty_history false; refused = 0 }
+start = standing_at (empty_history false)
 
 -- a watch goes on by a line with this number, of which these events are told
 abbrev pub GoesOn : Task → Standing → ℕ → StreamLine → List Event → Standing → Type 0

@@ -1,20 +1,28 @@
 -- Laws of what is told of lines, and of reports.
-use Rattle.std.specs.Prelude.{◌≡◌, ℕ, List}
+use Rattle.std.specs.Prelude.{◌≡◌, ℕ, List, map}
 use Rattle.tcq_syntax.specs.Accepted.{IsHistory}
 use Rattle.tcq_syntax.specs.Histories.{History}
 use Rattle.edge_io.specs.Lines.{Item as StreamLine}
 use Rattle.report_text.specs.declared.event.Event.{Event}
+use Rattle.report_text.specs.declared.event.Event.TheVariants.{Accepted, Declared, Refused, End}
 use Rattle.forms.specs.declared.StreamForm.{StreamForm}
+use Rattle.monitor_core.specs.Keeping.{Monitored}
 use Rattle.monitor_core.specs.Setting.{Setting}
+use Rattle.monitor_core.specs.Standing.{Stands}
+use Rattle.stream_report.specs.declared.ending.Ending.{Ending}
+use Rattle.stream_report.specs.Ends.{StreamedTo}
 use Rattle.stream_report.specs.Laws as streams
+use Rattle.stream_report.specs.Outside.{Ports}
 use Rattle.stream_maker.specs.Snapshots.{stream_text}
 use Rattle.job_sources.specs.declared.refusal.Refusal.{Refusal}
+use Rattle.watch_report.specs.declared.options.Options.{Options}
 use Rattle.watch_report.specs.Drill.{IsDrill, MadeSay}
+use Rattle.watch_report.specs.Monitoring.{monitoring, watched_from}
 use Rattle.watch_report.specs.Outcome.{Outcome, HasOutcome}
 use Rattle.stream_report.specs.Told.{Told}
-use Rattle.watch_report.specs.Report.{Standing, watches, watching}
+use Rattle.watch_report.specs.Report.{Standing, standing_at, watches, watching}
 use Rattle.job_sources.specs.Sources.{nothing_more, Opens}
-use Rattle.watch_report.specs.Task.{Task}
+use Rattle.watch_report.specs.Task.{Task, task_of}
 use Rattle.watch_report.specs.Told.{TellsLine}
 
 -- a line has one outcome after a history
@@ -87,6 +95,33 @@ CutShort = (task : Task) → streams.CutShort (watching task)
 -- written, but for want of memory
 abbrev pub LimitIsExact : Type 0
 LimitIsExact = (task : Task) → streams.LimitIsExact Refusal (watching task)
+
+-- what a watch by a monitor wrote, a watch wrote from each history that the monitor stands for; and
+-- the monitor behind the whole report stands for the history behind it
+abbrev pub MonitorsTell : Type 0
+MonitorsTell =
+    (options : Options) (ending : Ending Refusal) (first last : Monitored) (history : History)
+    (before now : Ports) →
+    Stands first history →
+    StreamedTo ending (monitoring options) (watched_from first) (λ after. after.monitor ≡ last)
+    before now →
+    StreamedTo ending (watching (task_of options first)) (standing_at history)
+    (λ after. Stands last after.history) before now
+
+-- the event, told of a line with this number
+abbrev pub numbered : ℕ → Event → Event
+numbered line (Accepted other number answers kept) = Accepted line number answers kept
+numbered line (Declared other name) = Declared line name
+numbered line (Refused other cause) = Refused line cause
+numbered line (End accepted refused) = End accepted refused
+
+-- a line is told alike after a history, wherever the stream begins, but for its number
+abbrev pub LinesRenumber : Type 0
+LinesRenumber =
+    (task : Task) (history : History) (number other : ℕ) (line : StreamLine)
+    (told : List Event) (after : History) →
+    TellsLine task history number line told after →
+    TellsLine task history other line (map (numbered other) told) after
 
 -- the drill of one seed and count is one text
 abbrev pub OneDrill : Type 0

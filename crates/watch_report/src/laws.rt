@@ -4,7 +4,8 @@ ghost use Rattle.watch_report.specs.CommonAnswers.{AnswersAreCommon};
 ghost use Rattle.watch_report.specs.ReportLaws.{OneOutcome, OneLine, OneTold, ToldJoined};
 ghost use Rattle.watch_report.specs.ReportLaws.{ToldParts, OneReport, OnePart, BeginsPart};
 ghost use Rattle.watch_report.specs.ReportLaws.{BeginsWhole, CutShort, LimitIsExact, OneDrill};
-ghost use Rattle.watch_report.specs.ReportLaws.{HistoriesGoOn, HistoriesAreTold};
+ghost use Rattle.watch_report.specs.ReportLaws.{HistoriesGoOn, HistoriesAreTold, MonitorsTell};
+ghost use Rattle.watch_report.specs.ReportLaws.{LinesRenumber};
 
 /// The accepted snapshots are consistent, and after each of them exactly the rows are told for
 /// which a query holds in every sequence of models of the accepted snapshots.
@@ -77,4 +78,14 @@ pub fn limit_is_exact()
 /// The drill of one seed and count is one text.
 pub fn one_drill()
     ensures { OneDrill }
+{}
+
+/// A line is told alike after a history, wherever the stream begins, but for its number.
+pub fn lines_renumber()
+    ensures { LinesRenumber }
+{}
+
+/// What a watch by a monitor wrote, a watch wrote from each history that the monitor stands for.
+pub fn monitors_tell()
+    ensures { MonitorsTell }
 {}

@@ -13,4 +13,4 @@ pub use drilling::drill;
 pub use options::Options;
 pub use rehearsing::plain;
 pub use telling::tell;
-pub use watching::watch_files;
+pub use watching::{watch, watch_files};

@@ -2,25 +2,29 @@
 
 ghost use Rattle.std.specs.Prelude.{◌≡◌, ◌++◌, ◌∷◌, [], ◌≤◌, ℕ, false};
 ghost use Rattle.std.specs.Prelude.{List, Ok, Err, IfOk, OnOk, OnErr, Some, length};
+ghost use Rattle.dl_syntax.specs.declared.facts.Fact.{Fact};
 ghost use Rattle.dl_syntax.specs.Names.{IsName, IsDeclarable};
 ghost use Rattle.dl_syntax.specs.Ontology.{Declared};
 ghost use Rattle.tcq_syntax.specs.Histories.{History};
 ghost use Rattle.tcq_syntax.specs.Tcq.{Tcq};
 ghost use Rattle.edge_io.specs.Lines.{text as text_line};
 ghost use Rattle.stream_report.specs.Told.{item_of};
-ghost use Rattle.snapshot_reader.specs.Said.{Said, said, names, says};
+ghost use Rattle.snapshot_reader.specs.Said.{Said, names, says};
 ghost use Rattle.snapshot_reader.specs.Answers.{Tells};
 ghost use Rattle.report_text.specs.declared.event.Event.TheVariants as event;
 ghost use Rattle.report_text.specs.Names.{AreSpelled, IsSpelledCause};
 ghost use Rattle.report_text.specs.Events.{HasSizes, HasAnswers, IsSpelledEvent, EventHasNames};
-ghost use Rattle.monitor_core.specs.Answering.{AreOver, AreRowsOf, AreAllAnswers};
+ghost use Rattle.monitor_core.specs.Answering.{AreOver, AreRowsOf};
+ghost use Rattle.monitor_core.specs.Keeping.{Monitored};
 ghost use Rattle.monitor_core.specs.Standing.{setting_of, Stands};
 ghost use Rattle.monitor_core.specs.Exchanging.{watched_of};
 ghost use Rattle.watch_report.specs.Task.{own_setting, task_of};
-ghost use Rattle.watch_report.specs.Told.{AreSizes, AreAskedSizes, TellsAccepted};
+ghost use Rattle.watch_report.specs.Told.{AreSizes, AreAskedSizes};
+ghost use Rattle.watch_report.specs.Monitoring.{AreThere, HasTaken, TellsTaken, MonitorTells};
+ghost use Rattle.watch_report.specs.Monitoring.{said_comes_to, line_comes_to, event_bytes};
 ghost use Rattle.watch_report.specs.Report.{bytes_of_event, refused_in};
-ghost use Rattle.watch_report.specs.Replies.{AcceptsLine, KeepsNames};
-ghost use Rattle.watch_report.specs.Replies.{IsRefusal, IsRefusedFor, IsNameRefusedFor, Replied};
+ghost use Rattle.watch_report.specs.Replies.{KeepsNames, IsRefusal, IsRefusedFor};
+ghost use Rattle.watch_report.specs.Replies.{IsNameRefusedFor, Gathers, told_by};
 
 use crate::options::Options;
 use declaring::DeclareFault;
@@ -76,6 +80,7 @@ fn asked_sizes(
     are_asked: bool,
 ) -> Result<Option<Items<u64>>, Memory>
     ensures many { IfOk result (λ kept. HasSizes (setting_of monitor.now).queries kept) }
+    ensures there { IfOk result (AreThere are_asked (setting_of monitor.now).queries) }
     ensures sizes { IfOk result (λ kept. (history : History) → Stands monitor.now history →
         AreAskedSizes are_asked (own_setting monitor.now) history kept) }
 {
@@ -101,10 +106,9 @@ fn accepted(
     ensures answers { IfOk result
         (HasAnswers (setting_of monitor.now).ontology (setting_of monitor.now).queries) }
     ensures spelled { IfOk result IsSpelledEvent }
-    ensures tells { IfOk result (λ event. (after : History) → Stands monitor.now after →
-        AreAllAnswers (setting_of monitor.now).ontology (setting_of monitor.now).queries
-        after answers.items →
-        TellsAccepted (task_of options monitor.now) after line (event ∷ [])) }
+    ensures tells { IfOk result (λ event. (old : Monitored) (snapshot : List Fact) →
+        HasTaken old monitor.now snapshot answers.items →
+        TellsTaken options old monitor.now line snapshot (event ∷ [])) }
 {
     match asked_sizes(alloc, monitor, options.sizes) {
         Ok(kept) => Ok(Event::Accepted {
@@ -145,11 +149,8 @@ fn take(
     ensures answers { IfOk result
         (HasAnswers (setting_of monitor.old).ontology (setting_of monitor.old).queries) }
     ensures spelled { IfOk result IsSpelledEvent }
-    ensures ok { IfOk result (λ event. (history : History) (line : List ℕ) →
-        Stands monitor.old history →
-        said (setting_of monitor.old).ontology options.form line ≡ says snapshot.now →
-        AcceptsLine options monitor.old monitor.new (text_line line) number (Some event)
-        history) }
+    ensures ok { IfOk result (λ event. MonitorTells options monitor.old number
+        (said_comes_to monitor.old (says snapshot.now)) (event ∷ []) monitor.new) }
 {
     match monitor.accept(alloc, snapshot) {
         Ok(answers) => accepted(alloc, options, monitor, number, answers),
@@ -187,11 +188,8 @@ fn declare(
     ensures err { OnErr result (setting_of monitor.new ≡ setting_of monitor.old) }
     ensures names { IfOk result (λ event.
         EventHasNames (setting_of monitor.new).ontology (setting_of monitor.new).queries event) }
-    ensures ok { IfOk result (λ event. (history : History) (line : List ℕ) →
-        Stands monitor.old history →
-        said (setting_of monitor.old).ontology options.form line ≡ names name →
-        AcceptsLine options monitor.old monitor.new (text_line line) number (Some event)
-        history) }
+    ensures ok { IfOk result (λ event. MonitorTells options monitor.old number
+        (said_comes_to monitor.old (names name)) (event ∷ []) monitor.new) }
 {
     match monitor.declare(alloc, from_ref(&name)) {
         Ok(()) => Ok(Event::Declared { line: number, name }),
@@ -217,8 +215,9 @@ fn ask_text(
     ensures err { OnErr result (setting_of monitor.new ≡ setting_of monitor.old) }
     ensures names { IfOk result
         (KeepsNames (setting_of monitor.old) (setting_of monitor.new)) }
-    ensures ok { IfOk result (λ event. (history : History) → Stands monitor.old history →
-        AcceptsLine options monitor.old monitor.new (text_line line.now) number event history) }
+    ensures ok { IfOk result (λ event. MonitorTells options monitor.old number
+        (line_comes_to monitor.old options.form (text_line line.now)) (told_by event)
+        monitor.new) }
 {
     match read_snapshot(alloc, line, options.form, monitor.ontology()) {
         Ok(Reading::Skip) => Ok(None),
@@ -252,8 +251,9 @@ pub fn ask(
     ensures err { OnErr result (setting_of monitor.new ≡ setting_of monitor.old) }
     ensures names { IfOk result
         (KeepsNames (setting_of monitor.old) (setting_of monitor.new)) }
-    ensures ok { IfOk result (λ event. (history : History) → Stands monitor.old history →
-        AcceptsLine options monitor.old monitor.new (item_of line.entry) number event history) }
+    ensures ok { IfOk result (λ event. MonitorTells options monitor.old number
+        (line_comes_to monitor.old options.form (item_of line.entry)) (told_by event)
+        monitor.new) }
 {
     match line {
         GivenLine::Text(bytes) => ask_text(alloc, options, monitor, number, bytes),
@@ -283,7 +283,9 @@ pub fn gather(
 ) -> Result<(), Memory>
     requires { EventHasNames (setting_of monitor.now).ontology
         (setting_of monitor.now).queries event.now }
-    ensures { OnOk result ((history : History) → Stands monitor.now history →
+    ensures bytes { OnOk result (gathered.new.items
+        ≡ gathered.old.items ++ event_bytes options monitor.now event.now) }
+    ensures history { OnOk result ((history : History) → Stands monitor.now history →
         gathered.new.items ≡ gathered.old.items
         ++ bytes_of_event (task_of options monitor.now) history event.now) }
 {
@@ -310,9 +312,8 @@ pub fn tell(
     ensures closed { monitor.old.strangers ≡ false →
         watched_of monitor.new ≡ watched_of monitor.old }
     ensures small { IfOk result (λ refused. refused ≤ 1) }
-    ensures ok { IfOk result (λ refused. (history : History) → Stands monitor.old history →
-        Replied options monitor.old monitor.new (item_of line.entry) number history
-        gathered.old.items gathered.new.items refused) }
+    ensures ok { IfOk result (Gathers options monitor.old monitor.new (item_of line.entry) number
+        gathered.old.items gathered.new.items) }
 {
     match ask(alloc, options, monitor, number, line) {
         Ok(None) => Ok(0),

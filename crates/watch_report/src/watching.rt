@@ -1,16 +1,18 @@
 //! The command `watch`.
 
 ghost use Rattle.std.specs.Prelude.{◌≡◌, false};
-ghost use Rattle.tcq_syntax.specs.Histories.{empty_history};
+ghost use Rattle.tcq_syntax.specs.Histories.{History, empty_history};
 ghost use Rattle.report_text.specs.Names.{AreSpelled};
 ghost use Rattle.monitor_core.specs.Standing.{setting_of, Stands};
-ghost use Rattle.stream_report.specs.Ends.{StreamEnds};
+ghost use Rattle.stream_report.specs.Ends.{StreamEnds, StreamedTo, HasFault};
 ghost use Rattle.stream_report.specs.Outside.{ports_of, outside_of};
 ghost use Rattle.job_sources.specs.FileNames.{file_names};
+ghost use Rattle.watch_report.specs.declared.options.Options.{Options};
 ghost use Rattle.watch_report.specs.Ends.{WatchEnds};
-ghost use Rattle.watch_report.specs.Report.{Standing, start, watching};
+ghost use Rattle.watch_report.specs.Monitoring.{Watched, monitoring, watched_from};
+ghost use Rattle.watch_report.specs.Report.{standing_at, start, watching};
 ghost use Rattle.watch_report.specs.Props.{facts};
-ghost use Rattle.watch_report.specs.Task.{Task, task_of};
+ghost use Rattle.watch_report.specs.Task.{task_of};
 
 use crate::options::Options;
 use crate::telling::{gather, tell};
@@ -33,20 +35,20 @@ struct Watcher {
 }
 
 impl Reporter for Watcher {
-    ghost State = { Standing };
+    ghost State = { Watched };
 
-    ghost Task = { Task };
+    ghost Task = { Options };
 
-    ghost manner = { watching };
+    ghost manner = { monitoring };
 
-    ghost task = { λ watcher. task_of watcher.options watcher.monitor };
+    ghost task = { λ watcher. watcher.options };
 
     ghost stands = { λ watcher state.
-        Stands watcher.monitor state.history × (watcher.refused ≡ state.refused) };
+        state ≡ record { monitor = watcher.monitor; refused = watcher.refused } };
 
     ghost counted = { λ watcher. watcher.refused };
 
-    #[tactic(auto, unfolding(crate::specs::Report::heading))]
+    #[tactic(auto, unfolding(crate::specs::Report::heading_of))]
     fn open(&self, gathered: &mut Vec<u8>) -> Result<(), Memory> {
         gathered.extend_from_slice(report_heading(self.options.report))
     }
@@ -82,8 +84,42 @@ impl Reporter for Watcher {
     }
 }
 
-/// Watches the input to its end, and writes the report to `out`.
-fn watch<S: Source, K: Sink>(
+/// Watches the input to its end, and writes the report to `out`. What the monitor is then comes
+/// back: where the whole report was written, it is the very monitor that told the last line.
+pub fn watch<S: Source, K: Sink>(
+    alloc: Global,
+    options: Options,
+    monitor: Monitor,
+    input: &mut S,
+    out: &mut K,
+) -> (Ending<Refusal>, Monitor)
+    requires { AreSpelled (setting_of monitor).queries }
+    ensures ends { StreamedTo result.0 (monitoring options) (watched_from monitor)
+        (λ after. after.monitor ≡ result.1)
+        (ports_of S.Source K.Sink input.old out.old)
+        (ports_of S.Source K.Sink input.new out.new) }
+    ensures history { (history : History) → Stands monitor history →
+        StreamedTo result.0 (watching (task_of options monitor)) (standing_at history)
+        (λ after. Stands result.1 after.history)
+        (ports_of S.Source K.Sink input.old out.old)
+        (ports_of S.Source K.Sink input.new out.new) }
+    ensures fault { HasFault result.0
+        (ports_of S.Source K.Sink input.old out.old)
+        (ports_of S.Source K.Sink input.new out.new) }
+{
+    let mut watcher = Watcher {
+        alloc,
+        options,
+        monitor,
+        refused: 0,
+    };
+    let ending = report_stream(alloc, &mut watcher, input, out);
+    let Watcher { monitor, .. } = watcher;
+    (ending, monitor)
+}
+
+/// Watches the input to its end by a monitor that has seen nothing.
+fn watch_from_start<S: Source, K: Sink>(
     alloc: Global,
     options: Options,
     monitor: Monitor,
@@ -97,13 +133,8 @@ fn watch<S: Source, K: Sink>(
         (ports_of S.Source K.Sink input.old out.old)
         (ports_of S.Source K.Sink input.new out.new) }
 {
-    let mut watcher = Watcher {
-        alloc,
-        options,
-        monitor,
-        refused: 0,
-    };
-    report_stream(alloc, &mut watcher, input, out)
+    let (ending, _monitor) = watch(alloc, options, monitor, input, out);
+    ending
 }
 
 /// Watches the stream by the files of these names.
@@ -120,7 +151,7 @@ pub fn watch_files<F: Files, S: Source, K: Sink>(
         (outside_of F.Files S.Source K.Sink files.new input.new out.new) }
 {
     match open_files(alloc, files, names) {
-        Ok(monitor) => watch(alloc, options, monitor, input, out),
+        Ok(monitor) => watch_from_start(alloc, options, monitor, input, out),
         Err(ending) => ending,
     }
 }

@@ -1,15 +1,14 @@
 use Rattle.std.proofs.Common.{◌≡◌, false, sym, ◌∙◌, ap, subst}
 use Rattle.std.proofs.lemmas.Result.{IfOk-weaker}
 use Rattle.std.specs.Prelude.{Some, slice_get}
-use Rattle.tcq_syntax.specs.Histories.{History}
 use Rattle.edge_io.specs.Lines.{text}
 use Rattle.report_text.specs.Names.{AreSpelled}
 use Rattle.monitor_core.specs.declared.state.State.{State}
 use Rattle.monitor_core.specs.Exchanging.{Watched, watched_of, setting_under, StandsUnder}
-use Rattle.monitor_core.specs.Standing.{Stands, setting_of}
+use Rattle.monitor_core.specs.Standing.{setting_of}
 use Rattle.many_streams.specs.Streams.{Streams}
 use Rattle.watch_report.specs.declared.options.Options.{Options}
-use Rattle.watch_report.specs.Replies.{Replied}
+use Rattle.watch_report.specs.Replies.{Gathers}
 use Rattle.watch_report.specs.Report.{Standing}
 use Rattle.streams_report.specs.Streaming.{TellsOne}
 use Rattle.streams_report.proofs.OneTurn.{tells_turn}
@@ -35,20 +34,18 @@ returns-clause-ok c =
     ap (λ (w : Watched). w.strangers) c.take_turn.ensures.watched ∙ c.set.invariant.closed in
     let w2 = c.tell-told.ensures.closed closed in
     IfOk-weaker c.tell-told.result
-    (λ refused. (history : History) → Stands m1 history →
-    Replied c.plain.result m1 m2 (text c.args.line.now) c.args.number history
-    c.args.gathered.now.items c.tell-told.new.gathered.items refused)
+    (Gathers c.plain.result m1 m2 (text c.args.line.now) c.args.number c.args.gathered.now.items
+    c.tell-told.new.gathered.items)
     (λ refused. (state : State) (standing : Standing) →
     slice_get c.args.set.now.states c.args.place ≡ Some state →
     StandsUnder c.args.set.now.watched state standing.history →
     TellsOne c.args.set.now after c.args.place c.args.number c.args.line.now
     c.args.gathered.now.items c.tell-told.new.gathered.items refused standing)
-    (λ refused replies. tells_turn c.args.set.now c.set.inside.monitor m1 m2 m3 names s0
+    (λ refused gathers. tells_turn c.args.set.now c.set.inside.monitor m1 m2 m3 names s0
     c.take_turn.new.states.items s3 c.args.place c.set.view_is c.take_turn.ensures.watched
     c.take_turn.ensures.monitor c.take_turn.ensures.states w2 c.take_turn-2.ensures.watched
     c.take_turn-2.ensures.states c.set.invariant.unnamed c.args.number refused c.args.line.now
     c.args.gathered.now.items c.tell-told.new.gathered.items
-    (λ history stands. subst (λ (o : Options). Replied o m1 m2 (text c.args.line.now) c.args.number
-    history c.args.gathered.now.items c.tell-told.new.gathered.items refused) c.plain.ensures
-    (replies history stands)))
+    (subst (λ (o : Options). Gathers o m1 m2 (text c.args.line.now) c.args.number
+    c.args.gathered.now.items c.tell-told.new.gathered.items refused) c.plain.ensures gathers))
     c.tell-told.ensures.ok

@@ -2,7 +2,7 @@ use Rattle.std.proofs.Common.{ℕ, List, [], ◌∷◌, ap₂}
 use Rattle.dl_syntax.specs.Rows.{Relation}
 use Rattle.report_text.specs.declared.event.Event.TheVariants.{Accepted}
 use Rattle.monitor_core.specs.Standing.{setting_of}
-use Rattle.watch_report.proofs.ReplyLaws.{answered_all, tells_accepted}
+use Rattle.watch_report.proofs.ReplyLaws.{answered_all}
 use Rattle.watch_report.proofs.telling.accepted.Goals as goal
 
 pub returns-in-Ok-clause-answers : goal.returns-in-Ok-clause-answers
@@ -12,8 +12,12 @@ returns-in-Ok-clause-answers c =
     c.in-Ok.ensures.many
 
 pub returns-in-Ok-clause-tells : goal.returns-in-Ok-clause-tells
-returns-in-Ok-clause-tells c = λ after stands exact.
-    tells_accepted c.args.options c.args.monitor.now after c.args.line c.args.answers.items
-    c.in-Ok.kept _ stands c.requires exact (c.in-Ok.ensures.sizes after stands)
-    (ap₂ (λ (n : ℕ) (relations : List Relation). Accepted c.args.line n relations c.in-Ok.kept ∷ [])
-    (c.count.ensures.history after stands) c.from_vec.ensures)
+returns-in-Ok-clause-tells c = λ old snapshot taken. record {
+  relations = c.args.answers.items;
+  taken = taken;
+  kept = c.in-Ok.kept;
+  there = c.in-Ok.ensures.there;
+  sizes = c.in-Ok.ensures.sizes;
+  is = ap₂ (λ (n : ℕ) (relations : List Relation).
+      Accepted c.args.line n relations c.in-Ok.kept ∷ []) c.count.ensures.state c.from_vec.ensures;
+}

@@ -1,17 +1,22 @@
-use Rattle.std.proofs.Common.{refl, false}
-use Rattle.stream_report.specs.Ends.{StreamEnds}
+use Rattle.std.proofs.Common.{refl}
 use Rattle.stream_report.specs.Outside.{ports_of}
-use Rattle.watch_report.specs.Report.{start, watching}
-use Rattle.watch_report.specs.Task.{Task}
-use Rattle.watch_report.proofs.OwnSettings.{own_manner}
+use Rattle.watch_report.specs.Monitoring.{watched_from}
+use Rattle.watch_report.proofs.LastMonitors.{last_monitor}
+use Rattle.watch_report.proofs.StoodFor.{monitors_tell}
 use Rattle.watch_report.proofs.watching.watch.Goals as goal
 
-pub returns : goal.returns
-returns g c = record {
-  ends = own_manner c.args.monitor c.args.options false (λ (t : Task).
-      StreamEnds (watching t) start c.report_stream.result
-      (ports_of g.S.Source g.K.Sink c.args.input.now c.args.out.now)
-      (ports_of g.S.Source g.K.Sink c.report_stream.new.input c.report_stream.new.out))
-      c.requires.stands
-      (c.report_stream.ensures.ends start (c.requires.stands, refl), c.report_stream.ensures.fault);
-}
+pub returns-clause-ends : goal.returns-clause-ends
+returns-clause-ends g c =
+    let last = c.report_stream.new.reporter in
+    last_monitor c.args.options c.args.monitor last.monitor last.refused c.report_stream.result
+    (ports_of g.S.Source g.K.Sink c.args.input.now c.args.out.now)
+    (ports_of g.S.Source g.K.Sink c.report_stream.new.input c.report_stream.new.out)
+    (c.report_stream.ensures.stands (watched_from c.args.monitor) refl)
+
+pub returns-clause-history : goal.returns-clause-history
+returns-clause-history g c = λ history stands.
+    let last = c.report_stream.new.reporter in
+    monitors_tell c.args.options c.report_stream.result c.args.monitor last.monitor history
+    (ports_of g.S.Source g.K.Sink c.args.input.now c.args.out.now)
+    (ports_of g.S.Source g.K.Sink c.report_stream.new.input c.report_stream.new.out) stands
+    (returns-clause-ends g c)
