@@ -145,7 +145,7 @@ event_bytes_after options m history told stands =
 pub record IsWatchOf (task : Task) (at : Watched) (standing : Standing) : Type 0 where
   pub stands : Stands at.monitor standing.history
   pub refused : at.refused ≡ standing.refused
-  pub task : task_of task.options at.monitor ≡ task
+  pub same : task_of task.options at.monitor ≡ task
 
 module _ (task : Task) where
   watches_on : (at : Watched) (standing : Standing) (number : ℕ) (line : StreamLine)
@@ -161,7 +161,7 @@ module _ (task : Task) where
       let own = own_kept options at.monitor after.monitor number events tells.outcome tells.replies
       in
       let same : task_of options after.monitor ≡ task =
-      same_task options at.monitor after.monitor own ∙ is.task in
+      same_task options at.monitor after.monitor own ∙ is.same in
       let later : Standing = record {
         history = one.after;
         refused = standing.refused + refused_in events;
@@ -170,14 +170,14 @@ module _ (task : Task) where
       bytes ∙ sym (bytes_after options after.monitor one.after events one.stands)
       ∙ ap (λ (t : Task). bytes_of t one.after events) same in
       let line_is : TellsLine task standing.history number line events one.after =
-      subst (λ (t : Task). TellsLine t standing.history number line events one.after) is.task
+      subst (λ (t : Task). TellsLine t standing.history number line events one.after) is.same
       one.tells in (
         later,
         (events, (line_is, refl), written),
         record {
           stands = one.stands;
           refused = refused_then ∙ ap (λ (n : ℕ). n + refused_in events) is.refused;
-          task = same;
+          same = same;
         },
       )
 
@@ -191,7 +191,7 @@ module _ (task : Task) where
       closes
       ∙ ap (event_bytes options at.monitor) end
       ∙ sym (event_bytes_after options at.monitor standing.history (end_event standing) is.stands)
-      ∙ ap (λ (t : Task). bytes_of_event t standing.history (end_event standing)) is.task
+      ∙ ap (λ (t : Task). bytes_of_event t standing.history (end_event standing)) is.same
 
   -- what a watch by a monitor tells, a watch from its history tells
   pub watch_refines : Refines (IsWatchOf task) (monitoring task.options) (watching task)
@@ -209,7 +209,7 @@ gathered_after options old new line number more before now state stands gathers 
     let at : Watched = record { monitor = old; refused = state.refused } in
     let then : Watched = record { monitor = new; refused = state.refused + more } in
     let step = watches_on (task_of options old) at state number line bytes then
-    (record { stands = stands; refused = refl; task = refl })
+    (record { stands = stands; refused = refl; same = refl })
     (events, (gathers.tells, ap (λ (n : ℕ). state.refused + n) gathers.refuses), refl) in
     record {
       told = bytes;
@@ -224,7 +224,7 @@ monitors_tell options ending first last history before now stands run =
     let task : Task = task_of options first in
     streamed_too (IsWatchOf task) (monitoring options) (watching task) (watch_refines task)
     (watched_from first) (standing_at history)
-    (record { stands = stands; refused = refl; task = refl })
+    (record { stands = stands; refused = refl; same = refl })
     (λ (after : Watched). after.monitor ≡ last) (λ (after : Standing). Stands last after.history)
     (λ (at : Watched) (standing : Standing) is same. subst (λ (m : Monitored).
     Stands m standing.history) same is.stands)
