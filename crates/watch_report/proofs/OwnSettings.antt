@@ -16,7 +16,7 @@ use Rattle.watch_report.specs.Task.{Task, ontology_after, without_last, own_sett
 abbrev with_these : Declared → List (List ℕ) → Declared
 with_these o names = record o { individuals = names }
 
-same_setting : (o p : Declared) (queries later : List Tcq) → o ≡ p → queries ≡ later
+pub same_setting : (o p : Declared) (queries later : List Tcq) → o ≡ p → queries ≡ later
     → record { ontology = o; queries = queries } ≡ (let s : Setting =
     record { ontology = p; queries = later } in s)
 same_setting o p queries later first second =

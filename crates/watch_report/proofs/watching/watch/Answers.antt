@@ -7,16 +7,16 @@ use Rattle.watch_report.proofs.watching.watch.Goals as goal
 
 pub returns-clause-ends : goal.returns-clause-ends
 returns-clause-ends g c =
-    let last = c.report_stream.new.reporter in
-    last_monitor c.args.options c.args.monitor last.monitor last.refused c.report_stream.result
+    let last = c.report_stream-ending.new.reporter in
+    last_monitor c.args.options c.args.monitor last.monitor last.refused c.report_stream-ending.result
     (ports_of g.S.Source g.K.Sink c.args.input.now c.args.out.now)
-    (ports_of g.S.Source g.K.Sink c.report_stream.new.input c.report_stream.new.out)
-    (c.report_stream.ensures.stands (watched_from c.args.monitor) refl)
+    (ports_of g.S.Source g.K.Sink c.report_stream-ending.new.input c.report_stream-ending.new.out)
+    (c.report_stream-ending.ensures.stands (watched_from c.args.monitor) refl)
 
 pub returns-clause-history : goal.returns-clause-history
 returns-clause-history g c = λ history stands.
-    let last = c.report_stream.new.reporter in
-    monitors_tell c.args.options c.report_stream.result c.args.monitor last.monitor history
+    let last = c.report_stream-ending.new.reporter in
+    monitors_tell c.args.options c.report_stream-ending.result c.args.monitor last.monitor history
     (ports_of g.S.Source g.K.Sink c.args.input.now c.args.out.now)
-    (ports_of g.S.Source g.K.Sink c.report_stream.new.input c.report_stream.new.out) stands
+    (ports_of g.S.Source g.K.Sink c.report_stream-ending.new.input c.report_stream-ending.new.out) stands
     (returns-clause-ends g c)

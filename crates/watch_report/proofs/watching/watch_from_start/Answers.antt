@@ -12,15 +12,15 @@ use Rattle.watch_report.proofs.watching.watch_from_start.Goals as goal
 pub returns : goal.returns
 returns g c = record {
   ends = own_manner c.args.monitor c.args.options false (λ (t : Task).
-      StreamEnds (watching t) start c.watch.result.0
+      StreamEnds (watching t) start c.watch-ending.result.0
       (ports_of g.S.Source g.K.Sink c.args.input.now c.args.out.now)
-      (ports_of g.S.Source g.K.Sink c.watch.new.input c.watch.new.out))
+      (ports_of g.S.Source g.K.Sink c.watch-ending.new.input c.watch-ending.new.out))
       c.requires.stands (
         streamed (watching (task_of c.args.options c.args.monitor)) start
-            (λ (after : Standing). Stands c.watch.result.1 after.history) c.watch.result.0
+            (λ (after : Standing). Stands c.watch-ending.result.1 after.history) c.watch-ending.result.0
             (ports_of g.S.Source g.K.Sink c.args.input.now c.args.out.now)
-            (ports_of g.S.Source g.K.Sink c.watch.new.input c.watch.new.out)
-            (c.watch.ensures.history (empty_history false) c.requires.stands),
-        c.watch.ensures.fault,
+            (ports_of g.S.Source g.K.Sink c.watch-ending.new.input c.watch-ending.new.out)
+            (c.watch-ending.ensures.history (empty_history false) c.requires.stands),
+        c.watch-ending.ensures.fault,
       );
 }
