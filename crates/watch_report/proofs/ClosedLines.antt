@@ -1,6 +1,6 @@
 -- Where no name may come, a line changes nothing of what is watched.
-use Rattle.std.proofs.Common.{◌≡◌, ℕ, Bool, false, List, [], ◌∷◌, refl, sym, ◌∙◌, ap, subst, take}
-use Rattle.std.specs.Prelude.{Option, None, Some, not}
+use Rattle.std.proofs.Common.{◌≡◌, ℕ, Bool, false, List, [], ◌∷◌, refl, ◌∙◌, ap, subst, take}
+use Rattle.std.specs.Prelude.{Option, None, not}
 use Rattle.dl_syntax.specs.Ontology.{with_individuals}
 use Rattle.tcq_syntax.specs.Arrivals.{NameFault, fault_of_name}
 use Rattle.monitor_core.specs.declared.plan.Plan.{Plan}

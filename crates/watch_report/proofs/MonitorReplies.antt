@@ -32,7 +32,7 @@ use Rattle.watch_report.specs.declared.options.Options.{Options}
 use Rattle.watch_report.specs.Monitoring.{HasNamed, HasTaken, TellsTaken, MonitorTells, Watched}
 use Rattle.watch_report.specs.Monitoring.{said_comes_to, line_comes_to, monitoring, event_bytes}
 use Rattle.watch_report.specs.Monitoring.{events_bytes}
-use Rattle.watch_report.specs.Outcome.{Outcome, refused, declares, accepted, name_comes_to}
+use Rattle.watch_report.specs.Outcome.{refused, declares, accepted, name_comes_to}
 use Rattle.watch_report.specs.Outcome.{cause_of_name, SaidComesTo}
 use Rattle.watch_report.specs.Replies.{IsRefusal, IsRefusedFor, IsNameRefusedFor, Gathers, told_by}
 use Rattle.watch_report.specs.Report.{refused_in}

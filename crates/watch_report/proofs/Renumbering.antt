@@ -1,5 +1,5 @@
 -- A line is told alike wherever the stream begins, but for its number.
-use Rattle.std.proofs.Common.{◌≡◌, ℕ, List, map, ap}
+use Rattle.std.proofs.Common.{ℕ, List, map, ap}
 use Rattle.tcq_syntax.specs.Histories.{History}
 use Rattle.report_text.specs.declared.event.Event.{Event}
 use Rattle.watch_report.specs.Outcome.{Outcome, skip, refused, declares, accepted}

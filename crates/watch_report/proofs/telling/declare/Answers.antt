@@ -1,4 +1,4 @@
-use Rattle.std.proofs.Common.{ℕ, List, subst}
+use Rattle.std.proofs.Common.{subst}
 use Rattle.monitor_core.specs.Standing.{AreAcceptableTo}
 use Rattle.watch_report.proofs.MonitorReplies.{has_named, named_line, refused_line}
 use Rattle.watch_report.proofs.ClosedLines.{never_declared}
