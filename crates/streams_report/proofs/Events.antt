@@ -18,7 +18,7 @@ use Rattle.marked_lines.specs.Texts.{Text, IsWhole}
 use Rattle.marked_lines.specs.Laws.{telling_alone}
 use Rattle.marked_lines.proofs.WholeTexts.{whole_joined, whole_ended, whole_nothing}
 use Rattle.watch_report.specs.Report.{Standing, watches, watching, bytes_of_event, end_event}
-use Rattle.watch_report.specs.Report.{heading}
+use Rattle.watch_report.specs.Report.{heading_of}
 use Rattle.watch_report.specs.Task.{ontology_after}
 use Rattle.watch_report.proofs.OneReport.{watching_once}
 use Rattle.marked_lines.proofs.OneText.{mixing_once}
@@ -73,7 +73,7 @@ streaming_once setting =
 pub with_heading : (setting : Setting) (first : Standing) (lines : List StreamLine) (told : Text)
     → Report (telling_alone (watches (watch_of setting)) (ends_alone setting)) first lines told
     → Report (watching (watch_of setting)) first lines told
-unfolding heading
+unfolding heading_of
 with_heading setting first lines told p = record {
   told = p.told;
   after = p.after;

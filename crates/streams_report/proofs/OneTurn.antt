@@ -1,6 +1,6 @@
 -- The turn of one stream.
 use Rattle.std.proofs.Common.{◌≡◌, ◌+◌, ◌-◌, ℕ, List, [], ◌++◌, length}
-use Rattle.std.proofs.Common.{take, refl, sym, ◌∙◌, ap, ap₂, subst, append-nil}
+use Rattle.std.proofs.Common.{take, sym, ◌∙◌, ap, ap₂, subst, append-nil}
 use Rattle.std.specs.Prelude.{Option, Some, slice_get, slice_set}
 use Rattle.std.proofs.lemmas.List.{take-append-drop}
 use Rattle.edge_io.specs.Lines.{text}
