@@ -58,7 +58,8 @@ module _ (options : Options) (old : Monitored) (history : History) (before : Sta
         (setting_of old).queries (setting_of old).queries (own_is old history before) refl
 
     has_outcome : (form : StreamForm) (line : StreamLine) (outcome : Outcome)
-        → line_comes_to old form line outcome → HasOutcome (own_setting old) history form line outcome
+        → line_comes_to old form line outcome
+        → HasOutcome (own_setting old) history form line outcome
     has_outcome form line outcome comes =
         subst (λ (s : Setting). ComesTo s history.is_closed form line outcome) (sym known_is)
         (subst (λ (closed : Bool). ComesTo (setting_of old) closed form line outcome)
@@ -120,8 +121,8 @@ module _ (options : Options) (old : Monitored) (history : History) (before : Sta
       }
       replies_after (accepted facts) replies has = taken_after facts replies has
 
-      pub tells_after : MonitorTells options old number (line_comes_to old options.form line) told new
-          → TellsAfter options old new line number told history
+      pub tells_after : MonitorTells options old number (line_comes_to old options.form line) told
+          new → TellsAfter options old new line number told history
       tells_after tells =
           replies_after tells.outcome tells.replies
           (has_outcome options.form line tells.outcome tells.comes)

@@ -10,17 +10,17 @@ use Rattle.watch_report.proofs.OwnSettings.{own_manner}
 use Rattle.watch_report.proofs.watching.watch_from_start.Goals as goal
 
 pub returns : goal.returns
-returns g c = record {
-  ends = own_manner c.args.monitor c.args.options false (λ (t : Task).
-      StreamEnds (watching t) start c.watch-ending.result.0
-      (ports_of g.S.Source g.K.Sink c.args.input.now c.args.out.now)
-      (ports_of g.S.Source g.K.Sink c.watch-ending.new.input c.watch-ending.new.out))
-      c.requires.stands (
+returns g c =
+    let run = c.watch-ending in
+    let before = ports_of g.S.Source g.K.Sink c.args.input.now c.args.out.now in
+    let now = ports_of g.S.Source g.K.Sink run.new.input run.new.out in
+    let run_of : Task → Type 0 = λ (t : Task). StreamEnds (watching t) start run.result.0 before now
+    in
+    record {
+      ends = own_manner c.args.monitor c.args.options false run_of c.requires.stands (
         streamed (watching (task_of c.args.options c.args.monitor)) start
-            (λ (after : Standing). Stands c.watch-ending.result.1 after.history) c.watch-ending.result.0
-            (ports_of g.S.Source g.K.Sink c.args.input.now c.args.out.now)
-            (ports_of g.S.Source g.K.Sink c.watch-ending.new.input c.watch-ending.new.out)
-            (c.watch-ending.ensures.history (empty_history false) c.requires.stands),
-        c.watch-ending.ensures.fault,
+            (λ (after : Standing). Stands run.result.1 after.history) run.result.0 before now
+            (run.ensures.history (empty_history false) c.requires.stands),
+        run.ensures.fault,
       );
-}
+    }
